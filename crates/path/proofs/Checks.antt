@@ -1,0 +1,67 @@
+-- The tests of a path that is handed in, verb by verb. Assumes nothing.
+use mathlib.Core.Path.{_≡_, refl}
+use mathlib.Core.Bool.{true, false, not}
+use mathlib.Core.List.{List, [], _∷_}
+use Prim.Native.Nat.{ℕ, _+_, _/_, _%_, _≤_, _<_}
+use native.Mathlib.Numerals.{add-one}
+use native.Mathlib.Omega.{arith}
+use borrow.Author.Tests.{lt-ltb, le-ltb, eq-eqb, ne-eqb}
+use lib.Dec.{eqb}
+use lib.ListN.{length, getD, drop, drop-of-length-le}
+use lib.Seq.{drop-cons}
+use lib.Ieee.{Float}
+use Rattle.path.specs.Check.{anyOver4, badFirst, badPath, usedBy}
+
+module _ (vs : List ℕ) (i : ℕ) (h : i < length vs) where
+  pub over-found : 4 < getD vs i 0 → true ≡ anyOver4 (drop i vs)
+  over-found g = rw (drop-cons vs i 0 h, lt-ltb 4 (getD vs i 0) g)
+
+  pub over-passed : getD vs i 0 ≤ 4 → anyOver4 (drop (i + 1) vs) ≡ anyOver4 (drop i vs)
+  over-passed g = rw (add-one i, drop-cons vs i 0 h, le-ltb 4 (getD vs i 0) g)
+
+pub over-none : (vs : List ℕ) (i : ℕ) → length vs ≤ i → false ≡ anyOver4 (drop i vs)
+over-none vs i h = rw (drop-of-length-le vs h)
+
+pub first-none : (vs : List ℕ) → length vs ≡ 0 → false ≡ badFirst vs
+first-none [] h = refl
+first-none (v ∷ vs) h = absurd (omega arith)
+
+pub first-some : (vs : List ℕ) → (length vs ≡ 0 → ⊥) → not (eqb (getD vs 0 0) 0) ≡ badFirst vs
+first-some [] h = absurd (h refl)
+first-some (v ∷ vs) h = refl
+
+-- ---- the refusals, in their order
+
+module _ (vs : List ℕ) (fs : List Float) where
+  pub refused-1 : length fs % 2 ≡ 1 → 1 ≡ badPath vs fs
+  unfolding badPath
+  refused-1 h = rw (eq-eqb (length fs % 2) 1 h)
+
+  module _ (h1 : length fs % 2 ≡ 1 → ⊥) where
+    pub refused-4 : 65536 < length vs → 4 ≡ badPath vs fs
+    unfolding badPath
+    refused-4 h = rw (ne-eqb (length fs % 2) 1 h1, lt-ltb 65536 (length vs) h)
+
+    module _ (h2 : length vs ≤ 65536) where
+      pub refused-4' : 131072 < length fs / 2 → 4 ≡ badPath vs fs
+      unfolding badPath
+      refused-4' h = rw (ne-eqb (length fs % 2) 1 h1, le-ltb 65536 (length vs) h2, lt-ltb 131072 (length fs / 2) h)
+
+      module _ (h3 : length fs / 2 ≤ 131072) where
+        pub refused-5 : anyOver4 vs ≡ true → 5 ≡ badPath vs fs
+        unfolding badPath
+        refused-5 h = rw (ne-eqb (length fs % 2) 1 h1, le-ltb 65536 (length vs) h2, le-ltb 131072 (length fs / 2) h3, h)
+
+        module _ (h4 : anyOver4 vs ≡ false) where
+          pub refused-6 : badFirst vs ≡ true → 6 ≡ badPath vs fs
+          unfolding badPath
+          refused-6 h = rw (ne-eqb (length fs % 2) 1 h1, le-ltb 65536 (length vs) h2, le-ltb 131072 (length fs / 2) h3, h4, h)
+
+          module _ (h5 : badFirst vs ≡ false) where
+            pub refused-6' : (usedBy vs ≡ length fs / 2 → ⊥) → 6 ≡ badPath vs fs
+            unfolding badPath
+            refused-6' h = rw (ne-eqb (length fs % 2) 1 h1, le-ltb 65536 (length vs) h2, le-ltb 131072 (length fs / 2) h3, h4, h5, ne-eqb (usedBy vs) (length fs / 2) h)
+
+            pub taken : usedBy vs ≡ length fs / 2 → 0 ≡ badPath vs fs
+            unfolding badPath
+            taken h = rw (ne-eqb (length fs % 2) 1 h1, le-ltb 65536 (length vs) h2, le-ltb 131072 (length fs / 2) h3, h4, h5, eq-eqb (usedBy vs) (length fs / 2) h)

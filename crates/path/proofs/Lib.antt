@@ -1,0 +1,4 @@
+pub mod Checks
+pub mod Segments
+pub mod Encoded
+pub mod Steps

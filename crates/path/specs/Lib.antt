@@ -1,0 +1,3 @@
+pub mod Segment
+pub mod Check
+pub mod Cursor

@@ -1,0 +1,198 @@
+// A path: verbs as bytes, each with its points in a buffer of floats, read by a cursor; and the check of a path that is handed in.
+ghost use mathlib.Core.Path.{_≡_};
+ghost use Prim.Native.Nat.{_+_, _*_, _≤_, _<_};
+ghost use lib.ListN.{length};
+ghost use Rattle.vec2.specs.Points.{pointAt};
+ghost use Rattle.path.specs.Segment.{used, segAt};
+ghost use Rattle.path.specs.Check.{usedBy, anyOver4, badFirst, badList, badPath};
+ghost use Rattle.path.specs.Cursor.{nextOf};
+use vec2::Vec2;
+
+// How overlapping subpaths combine when filling.
+pub enum FillRule {
+    NonZero,
+    EvenOdd,
+}
+
+// An axis-aligned bounding box.
+pub struct Rect {
+    pub min: Vec2,
+    pub max: Vec2,
+}
+
+// A verb with the points that it uses.
+pub enum Segment {
+    Move(Vec2),
+    Line(Vec2),
+    Quad(Vec2, Vec2),
+    Cubic(Vec2, Vec2, Vec2),
+    Close,
+}
+
+pub const MAX_VERBS: usize = 65536;
+
+pub const MAX_POINTS: usize = 131072;
+
+// The points that each verb uses: move, line, quad, cubic, close.
+const POINT_COUNTS: [u8; 5] = [1, 1, 2, 3, 0];
+
+// The points that a verb uses; none for a byte that is no verb.
+pub fn point_count(verb: u8) -> usize
+    ensures { λ r. ⌜ (r ≡ used verb) × (r ≤ 3) ⌝ }
+{
+    if verb < 5 {
+        return POINT_COUNTS[verb as usize] as usize;
+    }
+    0
+}
+
+// ---- the path that is handed in
+
+fn any_over_4(verbs: &[u8]) -> bool
+    ensures { λ r. ⌜ r ≡ anyOver4 (now (verbs .entry)) ⌝ }
+{
+    let mut i: usize = 0;
+    while i < verbs.len() {
+        let v = verbs[i];
+        if 4 < v {
+            return true;
+        }
+        i += 1;
+    }
+    false
+}
+
+// The points that the verbs use.
+fn points_of(verbs: &[u8]) -> usize
+    requires { ⌜ length (now verbs) ≤ 65536 ⌝ }
+    ensures { λ r. ⌜ r ≡ usedBy (now (verbs .entry)) ⌝ }
+{
+    let mut n: usize = 0;
+    let mut i: usize = 0;
+    while i < verbs.len() {
+        let v = verbs[i];
+        n += point_count(v);
+        i += 1;
+    }
+    n
+}
+
+// Whether there is a first verb, and it is no move.
+fn begins_badly(verbs: &[u8]) -> bool
+    ensures { λ r. ⌜ r ≡ badFirst (now (verbs .entry)) ⌝ }
+{
+    if verbs.len() == 0 {
+        return false;
+    }
+    let v = verbs[0];
+    v != 0
+}
+
+// 1 or 4 for a bare list of points that is refused, else 0.
+pub fn check_points(points: &[f32]) -> u8
+    ensures { λ r. ⌜ r ≡ badList (now (points .entry)) ⌝ }
+{
+    let n = points.len() / 2;
+    if points.len() % 2 == 1 {
+        return 1;
+    }
+    if MAX_POINTS < n {
+        return 4;
+    }
+    0
+}
+
+// 1, 4, 5 or 6 for a path that is refused, in this order, else 0.
+pub fn check(verbs: &[u8], points: &[f32]) -> u8
+    ensures { λ r. ⌜ r ≡ badPath (now (verbs .entry)) (now (points .entry)) ⌝ }
+{
+    let n = points.len() / 2;
+    if points.len() % 2 == 1 {
+        return 1;
+    }
+    if MAX_VERBS < verbs.len() {
+        return 4;
+    }
+    if MAX_POINTS < n {
+        return 4;
+    }
+    if any_over_4(verbs) {
+        return 5;
+    }
+    if begins_badly(verbs) {
+        return 6;
+    }
+    if points_of(verbs) != n {
+        return 6;
+    }
+    0
+}
+
+// ---- the cursor
+
+// Point k of a float buffer.
+pub fn point_at(points: &[f32], k: usize) -> Vec2
+    requires { do ⌜ 2 * k + 1 < (← ⟦points.len()⟧) ⌝ }
+    ensures { λ r. ⌜ r ≡ pointAt (now (points .entry)) k ⌝ }
+{
+    let x = points[2 * k];
+    let y = points[2 * k + 1];
+    Vec2 { x, y }
+}
+
+// The segment of a verb whose points begin at point k.
+pub fn segment_at(verb: u8, points: &[f32], k: usize) -> Segment
+    requires { do ⌜ 2 * (k + used verb) ≤ (← ⟦points.len()⟧) ⌝ }
+    ensures { λ r. ⌜ r ≡ segAt verb (now (points .entry)) k ⌝ }
+{
+    match verb {
+        0 => Segment::Move(point_at(points, k)),
+        1 => Segment::Line(point_at(points, k)),
+        2 => Segment::Quad(point_at(points, k), point_at(points, k + 1)),
+        3 => Segment::Cubic(
+            point_at(points, k),
+            point_at(points, k + 1),
+            point_at(points, k + 2),
+        ),
+        _ => Segment::Close,
+    }
+}
+
+// The verbs and points that stand before the next segment.
+pub struct Cursor {
+    pub verb: usize,
+    pub point: usize,
+}
+
+pub enum Step {
+    Next(Segment, Cursor),
+    End,
+}
+
+// The segment at a cursor, and the cursor behind it; the end, where the verbs or the points end. The source's `segments`.
+pub fn next(verbs: &[u8], points: &[f32], c: Cursor) -> Step
+    ensures { λ r. ⌜ r ≡ nextOf (now (verbs .entry)) (now (points .entry)) c ⌝ }
+{
+    let i = c.verb;
+    let k = c.point;
+    if verbs.len() <= i {
+        return Step::End;
+    }
+    let v = verbs[i];
+    let u = point_count(v);
+    let n = points.len() / 2;
+    if n < u {
+        return Step::End;
+    }
+    if n - u < k {
+        return Step::End;
+    }
+    let s = segment_at(v, points, k);
+    Step::Next(
+        s,
+        Cursor {
+            verb: i + 1,
+            point: k + u,
+        },
+    )
+}

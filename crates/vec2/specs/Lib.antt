@@ -1,0 +1,2 @@
+pub mod Vec2
+pub mod Points
