@@ -2,24 +2,17 @@ use Rattle.vec2.specs.Vec2.{anyNan}
 use borrow.Author.Needs.{needs}
 use Rattle.vec2.proofs.Vec2.is_nan.Statement.{statement}
 use Rattle.vec2.proofs.Vec2.is_nan.Tie as tie
-use Rattle.vec2.proofs.Vec2.is_nan.Reads as reads
-use Rattle.vec2.proofs.Vec2.is_nan.Lts as lts
-use Rattle.float.proofs.is_nan.Reads as is-nan-reads
 
--- src/lib.rt:112:12
 is-nan-requires : tie.Need-is-nan-requires
 is-nan-requires c κs = search needs
 
--- src/lib.rt:113:13
 returns : tie.Need-returns
 unfolding anyNan
 returns c = rw (← c .before .is-nan .ensures, c .if1 .taken)
 
--- src/lib.rt:115:9
 is-nan-requires-2 : tie.Need-is-nan-requires-2
 is-nan-requires-2 c κs = search needs
 
--- src/lib.rt:109:5
 returns-2 : tie.Need-returns-2
 unfolding anyNan
 returns-2 c = rw (← c .before .before .is-nan .ensures, c .before .if1 .left) (c .is-nan2 .ensures)

@@ -1,15 +1,11 @@
 use Rattle.vec2.specs.Vec2.{sameAs}
 use Rattle.vec2.proofs.Vec2.same.Statement.{statement}
 use Rattle.vec2.proofs.Vec2.same.Tie as tie
-use Rattle.vec2.proofs.Vec2.same.Reads as reads
-use Rattle.vec2.proofs.Vec2.same.Lts as lts
 
--- src/lib.rt:133:13
 returns : tie.Need-returns
 unfolding sameAs
 returns c = cc
 
--- src/lib.rt:129:5
 returns-2 : tie.Need-returns-2
 unfolding sameAs
 returns-2 c = cc
