@@ -1,0 +1,55 @@
+-- A conic as quads: `conic_to` and `push_conic` of path.rs ("Conic" of the scope). Definitions only.
+use Prim.Native.Nat.{ℕ, zero, suc}
+use mathlib.Core.Bool.{Bool, true, false, not, _&&_, _||_}
+use mathlib.Core.List.{List, [], _∷_, _++_}
+use lib.Ieee.{Float, binary32, ofBits, lt, le}
+use Rattle.float.specs.Root.{squareRoot}
+use Rattle.float.specs.Small.{abs, isFinite}
+use Rattle.float.specs.Arith.{plus, minus, times, over, f0, f1, f2, half, quarter}
+use Rattle.vec2.specs.declared.Vec2.{Vec2}
+use Rattle.vec2.specs.Vec2.{_⊕_, _⊖_, _⊙_, _⊘_, len, allFinite}
+use Rattle.path.specs.declared.Segment.{Segment}
+use Rattle.path.specs.declared.Segment.the-variants.{Quad}
+
+-- one line to the end: weight not finite or <= 0, control or end not finite
+unfoldable pub straight : Vec2 → Vec2 → Float → Bool
+straight control end weight = not (isFinite weight) || le weight f0 || not (allFinite control) || not (allFinite end)
+
+-- 0.001, the source's NEAR_ONE and RELATIVE_ERROR
+abbrev pub thousandth : Float
+thousandth = ofBits binary32 0x3a83_126f
+
+-- |weight − 1| <= 0.001, or chord > 0 with the midpoints of conic and quad within 0.001 of the chord
+unfoldable pub near : Vec2 → Vec2 → Vec2 → Float → Bool
+near a c t w =
+    le (abs (minus w f1)) thousandth
+    || (lt f0 (len (t ⊖ a))
+    && le (len ((a ⊕ c ⊙ times f2 w ⊕ t) ⊘ times f2 (plus f1 w) ⊖ (a ⊕ c ⊙ f2 ⊕ t) ⊙ quarter)) (times thousandth (len (t ⊖ a))))
+
+-- ---- the halves: a, left, middle and middle, right, t, both of the same weight
+
+unfoldable pub leftOf : Vec2 → Vec2 → Float → Vec2
+leftOf a c w = (a ⊕ c ⊙ w) ⊙ over f1 (plus f1 w)
+
+unfoldable pub rightOf : Vec2 → Vec2 → Float → Vec2
+rightOf c t w = (c ⊙ w ⊕ t) ⊙ over f1 (plus f1 w)
+
+unfoldable pub middle : Vec2 → Vec2 → Vec2 → Float → Vec2
+middle a c t w = (a ⊕ c ⊙ times f2 w ⊕ t) ⊙ times half (over f1 (plus f1 w))
+
+unfoldable pub halfWeight : Float → Float
+halfWeight w = squareRoot binary32 (times (plus f1 w) half)
+
+-- The quads, left half first. The number is 6 minus the depth. The Bool is the test of this piece: matched on, so that no half is worked out where it passes.
+unfoldable pub split : ℕ → Bool → Vec2 → Vec2 → Vec2 → Float → List Segment
+split zero b a c t w = Quad c t ∷ []
+split (suc k) true a c t w = Quad c t ∷ []
+split (suc k) false a c t w =
+    let l = leftOf a c w in
+    let r = rightOf c t w in
+    let m = middle a c t w in
+    let u = halfWeight w in
+    split k (near a l m u) a l m u ++ split k (near m r t u) m r t u
+
+unfoldable pub quads : Vec2 → Vec2 → Vec2 → Float → List Segment
+quads a c t w = split 6 (near a c t w) a c t w

@@ -1,0 +1,39 @@
+-- A conic's halves as arrays of three points, and quads laid in the buffers. Definitions only.
+use mathlib.Core.Path.{_≡_}
+use Prim.Native.Nat.{ℕ, zero, suc}
+use mathlib.Core.Bool.{Bool, true}
+use mathlib.Core.List.{List, [], _∷_}
+use lib.ListN.{getD, length}
+use lib.Seq.{sets}
+use lib.Ieee.{Float, nan}
+use Rattle.vec2.specs.declared.Vec2.{Vec2}
+use Rattle.vec2.specs.Vec2.{vec}
+use Rattle.vec2.specs.Points.{flat}
+use Rattle.path.specs.declared.Segment.{Segment}
+use Rattle.path.specs.Segment.{bytesOf, allPoints}
+use Rattle.conic.specs.Conic.{near, split}
+
+-- "a split half is three points in an array"
+abbrev pub Half : Type 0
+Half = List (List Float)
+
+abbrev pub pointOf : Half → ℕ → Vec2
+pointOf h i = vec (getD (getD h i []) 0 nan) (getD (getD h i []) 1 nan)
+
+abbrev pub halfOf : Vec2 → Vec2 → Vec2 → Half
+halfOf a c t = (a .x ∷ a .y ∷ []) ∷ (c .x ∷ c .y ∷ []) ∷ (t .x ∷ t .y ∷ []) ∷ []
+
+-- whether a half that may be split k times more is one quad
+abbrev pub single : ℕ → Half → Float → Bool
+single zero h w = true
+single (suc k) h w = near (pointOf h 0) (pointOf h 1) (pointOf h 2) w
+
+-- the quads of a half that may be split k times more
+unfoldable pub pieces : ℕ → Half → Float → List Segment
+pieces k h w = split k (near (pointOf h 0) (pointOf h 1) (pointOf h 2) w) (pointOf h 0) (pointOf h 1) (pointOf h 2) w
+
+-- the list of quads has been stored, verbs from v on and floats from f on, and r is its length
+pub record Bent (qs : List Segment) (r : ℕ) (vs : List ℕ) (v : ℕ) (vs' : List ℕ) (fs : List Float) (f : ℕ) (fs' : List Float) : Type 0 where
+  pub number : r ≡ length qs
+  pub verbs : vs' ≡ sets vs v (bytesOf qs)
+  pub floats : fs' ≡ sets fs f (flat (allPoints qs))
