@@ -19,12 +19,21 @@ straight control end weight = not (isFinite weight) || le weight f0 || not (allF
 abbrev pub thousandth : Float
 thousandth = ofBits binary32 0x3a83_126f
 
--- |weight − 1| <= 0.001, or chord > 0 with the midpoints of conic and quad within 0.001 of the chord
+-- x·x + y·y, whose root is the length
+abbrev pub square : Vec2 → Float
+square p = plus (times (p .x) (p .x)) (times (p .y) (p .y))
+
+-- the way from the quad's midpoint to the conic's
+abbrev pub gap : Vec2 → Vec2 → Vec2 → Float → Vec2
+gap a c t w = (a ⊕ c ⊙ times f2 w ⊕ t) ⊘ times f2 (plus f1 w) ⊖ (a ⊕ c ⊙ f2 ⊕ t) ⊙ quarter
+
+-- chord > 0 with the midpoints within 0.001 of the chord
+abbrev pub within : Float → Float → Bool
+within chord apart = lt f0 chord && le apart (times thousandth chord)
+
+-- |weight − 1| <= 0.001, or the midpoints of conic and quad are near by the chord's measure
 unfoldable pub near : Vec2 → Vec2 → Vec2 → Float → Bool
-near a c t w =
-    le (abs (minus w f1)) thousandth
-    || (lt f0 (len (t ⊖ a))
-    && le (len ((a ⊕ c ⊙ times f2 w ⊕ t) ⊘ times f2 (plus f1 w) ⊖ (a ⊕ c ⊙ f2 ⊕ t) ⊙ quarter)) (times thousandth (len (t ⊖ a))))
+near a c t w = le (abs (minus w f1)) thousandth || within (len (t ⊖ a)) (len (gap a c t w))
 
 -- ---- the halves: a, left, middle and middle, right, t, both of the same weight
 

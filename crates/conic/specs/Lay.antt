@@ -11,7 +11,7 @@ use Rattle.vec2.specs.Vec2.{vec}
 use Rattle.vec2.specs.Points.{flat}
 use Rattle.path.specs.declared.Segment.{Segment}
 use Rattle.path.specs.Segment.{bytesOf, allPoints}
-use Rattle.conic.specs.Conic.{near, split}
+use Rattle.conic.specs.Conic.{near, leftOf, rightOf, middle, split}
 
 -- "a split half is three points in an array"
 abbrev pub Half : Type 0
@@ -22,6 +22,12 @@ pointOf h i = vec (getD (getD h i []) 0 nan) (getD (getD h i []) 1 nan)
 
 abbrev pub halfOf : Vec2 → Vec2 → Vec2 → Half
 halfOf a c t = (a .x ∷ a .y ∷ []) ∷ (c .x ∷ c .y ∷ []) ∷ (t .x ∷ t .y ∷ []) ∷ []
+
+abbrev pub leftHalf : Half → Float → Half
+leftHalf h w = halfOf (pointOf h 0) (leftOf (pointOf h 0) (pointOf h 1) w) (middle (pointOf h 0) (pointOf h 1) (pointOf h 2) w)
+
+abbrev pub rightHalf : Half → Float → Half
+rightHalf h w = halfOf (middle (pointOf h 0) (pointOf h 1) (pointOf h 2) w) (rightOf (pointOf h 1) (pointOf h 2) w) (pointOf h 2)
 
 -- whether a half that may be split k times more is one quad
 abbrev pub single : ℕ → Half → Float → Bool

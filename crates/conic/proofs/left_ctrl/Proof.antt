@@ -1,0 +1,21 @@
+-- `conic::left_ctrl` meets its contract. Assumes nothing.
+use Rattle.conic.specs.Conic.{leftOf}
+use borrow.Author.Needs.{needs}
+use Rattle.conic.proofs.left_ctrl.Statement.{statement}
+use Rattle.conic.proofs.left_ctrl.Tie as tie
+
+mul-requires : tie.Need-mul-requires
+mul-requires c κs = search needs
+
+add-requires : tie.Need-add-requires
+add-requires c κs = search needs
+
+mul-requires-2 : tie.Need-mul-requires-2
+mul-requires-2 c κs = search needs
+
+returns : tie.Need-returns
+unfolding leftOf
+returns c = cc
+
+pub left-ctrl-spec : {M : Type 1} → statement M
+left-ctrl-spec = tie.close (tie.spec mul-requires add-requires mul-requires-2 returns)
