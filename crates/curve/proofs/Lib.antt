@@ -1,0 +1,3 @@
+pub mod Bends
+pub mod Numbers
+pub mod Examples

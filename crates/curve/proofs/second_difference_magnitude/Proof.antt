@@ -1,0 +1,23 @@
+use Rattle.curve.proofs.Bends.{bend-nan, bend-plain}
+use borrow.Author.Needs.{needs}
+use Rattle.curve.proofs.second_difference_magnitude.Statement.{statement}
+use Rattle.curve.proofs.second_difference_magnitude.Tie as tie
+
+is-nan-requires : tie.Need-is-nan-requires
+is-nan-requires c κs = search needs
+
+returns : tie.Need-returns
+returns c = bend-nan _ (cc)
+
+abs-requires : tie.Need-abs-requires
+abs-requires c κs = search needs
+
+max-element-requires : tie.Need-max-element-requires
+max-element-requires c κs = search needs
+
+returns-2 : tie.Need-returns-2
+returns-2 c = cc (bend-plain (c .before .before .before .before .args .v) (cc))
+
+pub second-difference-magnitude-spec : {M : Type 1} → statement M
+second-difference-magnitude-spec =
+    tie.close (tie.spec is-nan-requires returns abs-requires max-element-requires returns-2)

@@ -1,0 +1,92 @@
+// How many lines a curve becomes, by Wang's formula, and the points of a curve: flatten.rs.
+ghost use mathlib.Core.Path.{_≡_};
+ghost use Rattle.curve.specs.Count.{bend, second, slack, quadCount, cubicCount, evalQuad, evalCubic, scaledTolerance};
+use vec2::Vec2;
+
+// In device pixels.
+pub const DEFAULT_TOLERANCE: f32 = 0.25;
+
+// The most lines of a single curve.
+pub const MAX_SEGMENTS: u32 = 1000;
+
+fn second_difference(a: Vec2, b: Vec2, c: Vec2) -> Vec2
+    ensures { λ r. ⌜ r ≡ second a b c ⌝ }
+{
+    a.sub(b.mul(2.0)).add(c)
+}
+
+// The larger component times √2. It squares nothing, so that it does not overflow; a NaN stays a NaN.
+fn second_difference_magnitude(v: Vec2) -> f32
+    ensures { λ r. ⌜ r ≡ bend v ⌝ }
+{
+    if v.is_nan() {
+        return 0.0 / 0.0;
+    }
+    v.abs().max_element() * 1.41421356
+}
+
+// Four times the tolerance, which is 2^-126 at least.
+fn slack_of(tolerance: f32) -> f32
+    ensures { λ r. ⌜ r ≡ slack tolerance ⌝ }
+{
+    4.0 * float::max(tolerance, 1.17549435e-38)
+}
+
+pub fn quad_segment_count(p0: Vec2, p1: Vec2, p2: Vec2, tolerance: f32) -> u32
+    ensures { λ r. ⌜ r ≡ quadCount tolerance p0 p1 p2 ⌝ }
+{
+    let m = second_difference_magnitude(second_difference(p0, p1, p2));
+    float::segment_count(m / slack_of(tolerance))
+}
+
+pub fn cubic_segment_count(p0: Vec2, p1: Vec2, p2: Vec2, p3: Vec2, tolerance: f32) -> u32
+    ensures { λ r. ⌜ r ≡ cubicCount tolerance p0 p1 p2 p3 ⌝ }
+{
+    let d0 = second_difference_magnitude(second_difference(p0, p1, p2));
+    let d1 = second_difference_magnitude(second_difference(p1, p2, p3));
+    let m = float::max(d0, d1);
+    float::segment_count(3.0 * m / slack_of(tolerance))
+}
+
+// The tolerance in curve space, from the transform's largest scale factor.
+pub fn tolerance_for_scale(tolerance: f32, max_scale: f32) -> f32
+    ensures { λ r. ⌜ r ≡ scaledTolerance tolerance «max_scale» ⌝ }
+{
+    if max_scale <= 0.0 {
+        return tolerance;
+    }
+    if float::is_finite(max_scale) {
+        return tolerance / max_scale;
+    }
+    tolerance
+}
+
+// Where the curve is at t.
+pub fn eval_quad(p0: Vec2, p1: Vec2, p2: Vec2, t: f32) -> Vec2
+    ensures { λ r. ⌜ r ≡ evalQuad p0 p1 p2 t ⌝ }
+{
+    let mt = 1.0 - t;
+    let a = mt * mt;
+    let b = 2.0 * mt * t;
+    let c = t * t;
+    Vec2 {
+        x: p0.x * a + p1.x * b + p2.x * c,
+        y: p0.y * a + p1.y * b + p2.y * c,
+    }
+}
+
+pub fn eval_cubic(p0: Vec2, p1: Vec2, p2: Vec2, p3: Vec2, t: f32) -> Vec2
+    ensures { λ r. ⌜ r ≡ evalCubic p0 p1 p2 p3 t ⌝ }
+{
+    let mt = 1.0 - t;
+    let mt2 = mt * mt;
+    let t2 = t * t;
+    let a = mt2 * mt;
+    let b = 3.0 * mt2 * t;
+    let c = 3.0 * mt * t2;
+    let d = t2 * t;
+    Vec2 {
+        x: p0.x * a + p1.x * b + p2.x * c + p3.x * d,
+        y: p0.y * a + p1.y * b + p2.y * c + p3.y * d,
+    }
+}

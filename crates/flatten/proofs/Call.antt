@@ -1,0 +1,131 @@
+-- The call: each way out gives what the definition gives. Assumes nothing.
+use mathlib.Core.Path.{_≡_, refl, sym, _∙_}
+use mathlib.Core.Bool.{Bool, true, false, not, _||_, cond, true≢false}
+use mathlib.Core.List.{List}
+use Prim.Native.Nat.{ℕ, zero, suc, _+_, _*_, _/_, _%_, _≤_, _<_}
+use native.Mathlib.Omega.{arith}
+use borrow.Author.Tests.{lt-ltb, le-ltb, eq-eqb, ne-eqb, ltb-false, eqb-true, not-false}
+use lib.Dec.{ltb, eqb}
+use lib.ListN.{length}
+use lib.Seq.{sets}
+use lib.Ieee.{Float}
+use Rattle.vec2.specs.Points.{flat}
+use Rattle.path.specs.Segment.{segments}
+use Rattle.path.specs.Check.{usedBy, anyOver4, badFirst, badPath}
+use Rattle.flatten.specs.declared.Flattened.{Flattened}
+use Rattle.flatten.specs.declared.Tally.{Tally}
+use Rattle.flatten.specs.Flatten.{nowhere, pointsOut, endsOut, flatRefusal, outcome, refusedBy, flatten}
+use Rattle.flatten.specs.Steps.{none, measured}
+use Rattle.flatten.proofs.Measures.{Meant, meant}
+
+-- ---- a path that is not refused
+
+pub first-false : (a b : Bool) → (a || b) ≡ false → (a ≡ false) × (b ≡ false)
+first-false true b h = absurd (true≢false h)
+first-false false b h = (refl, h)
+
+pub record Sound (vs : List ℕ) (fs : List Float) : Type 0 where
+  pub few : length vs ≤ 65536
+  pub used : usedBy vs ≡ length fs / 2
+
+none-of : (a b d e : Bool) → _≡_ {A = ℕ} (cond a 1 (cond b 4 (cond d 5 (cond e 6 0)))) 0 → (b ≡ false) × (e ≡ false)
+none-of true b d e h = absurd (omega arith)
+none-of false true d e h = absurd (omega arith)
+none-of false false true e h = absurd (omega arith)
+none-of false false false true h = absurd (omega arith)
+none-of false false false false h = (refl, refl)
+
+pub sound : (vs : List ℕ) (fs : List Float) → badPath vs fs ≡ 0 → Sound vs fs
+unfolding badPath
+sound vs fs h =
+    let n = none-of (eqb (length fs % 2) 1) (ltb 65536 (length vs) || ltb 131072 (length fs / 2)) (anyOver4 vs) (badFirst vs || not (eqb (usedBy vs) (length fs / 2))) h in
+    record {
+      few = ltb-false 65536 (length vs) (first-false (ltb 65536 (length vs)) (ltb 131072 (length fs / 2)) (n .0) .0);
+      used = eqb-true (usedBy vs) (length fs / 2) (not-false _ (first-false (badFirst vs) (not (eqb (usedBy vs) (length fs / 2))) (n .1) .1));
+    }
+
+-- ---- the ways out, in their order
+
+module _ (vs : List ℕ) (fs : List Float) (tol : Float) (out : List Float) (es : List ℕ) where
+  -- the answer, with the outputs as they were
+  abbrev pub Refuses : Flattened → Type 0
+  Refuses r = outcome r out es ≡ flatten vs fs tol out es
+
+  refuses : (r : Flattened) (n : ℕ) → r ≡ refusedBy n → flatRefusal vs fs tol out es ≡ n → (n ≡ 0 → ⊥) → Refuses r
+  unfolding flatten
+  refuses r zero q e h = absurd (h refl)
+  refuses r (suc n) q e h = rw (q, e)
+
+  odd-number : length out % 2 ≡ 1 → flatRefusal vs fs tol out es ≡ 1
+  unfolding flatRefusal
+  odd-number h = rw (eq-eqb (length out % 2) 1 h)
+
+  pub odd-out : length out % 2 ≡ 1 → (r : Flattened) → r ≡ refusedBy 1 → Refuses r
+  odd-out h r q = refuses r 1 q (odd-number h) (λ e. omega (arith, e))
+
+  module _ (h1 : length out % 2 ≡ 1 → ⊥) (n : ℕ) (e : n ≡ badPath vs fs) where
+    path-number : (n ≡ 0 → ⊥) → flatRefusal vs fs tol out es ≡ n
+    unfolding flatRefusal
+    path-number h = rw (ne-eqb (length out % 2) 1 h1, ← e, ne-eqb n 0 h)
+
+    pub bad-path : (n ≡ 0 → ⊥) → (r : Flattened) → r ≡ refusedBy n → Refuses r
+    bad-path h r q = refuses r n q (path-number h) h
+
+    module _ (z : n ≡ 0) (t : Tally) (m : t ≡ measured tol none nowhere (segments vs fs)) where
+      good : badPath vs fs ≡ 0
+      good = sym e ∙ z
+
+      means : Meant tol (segments vs fs) t
+      means = meant tol (segments vs fs) t m
+
+      points-number : length out / 2 < t .starts + t .lines + t .counts + t .closings → flatRefusal vs fs tol out es ≡ 3
+      unfolding flatRefusal
+      points-number h = rw (ne-eqb (length out % 2) 1 h1, good, lt-ltb (length out / 2) (length (pointsOut tol (segments vs fs))) (rw (← means .points) h))
+
+      pub few-points : length out / 2 < t .starts + t .lines + t .counts + t .closings → (r : Flattened) → r ≡ refusedBy 3 → Refuses r
+      few-points h r q = refuses r 3 q (points-number h) (λ e. omega (arith, e))
+
+      module _ (h2 : t .starts + t .lines + t .counts + t .closings ≤ length out / 2) where
+        ends-number : length es < t .starts → flatRefusal vs fs tol out es ≡ 3
+        unfolding flatRefusal
+        ends-number h =
+            rw (
+              ne-eqb (length out % 2) 1 h1,
+              good,
+              le-ltb (length out / 2) (length (pointsOut tol (segments vs fs))) (rw (← means .points) h2),
+              lt-ltb (length es) (length (endsOut tol (segments vs fs))) (rw (← means .polylines) h),
+            )
+
+        pub few-ends : length es < t .starts → (r : Flattened) → r ≡ refusedBy 3 → Refuses r
+        few-ends h r q = refuses r 3 q (ends-number h) (λ e. omega (arith, e))
+
+        module _ (h3 : t .starts ≤ length es) where
+          no-number : flatRefusal vs fs tol out es ≡ 0
+          unfolding flatRefusal
+          no-number =
+              rw (
+                ne-eqb (length out % 2) 1 h1,
+                good,
+                le-ltb (length out / 2) (length (pointsOut tol (segments vs fs))) (rw (← means .points) h2),
+                le-ltb (length es) (length (endsOut tol (segments vs fs))) (rw (← means .polylines) h3),
+              )
+
+          pub has-room : (2 * usedBy vs ≤ length fs) × (2 * length (pointsOut tol (segments vs fs)) ≤ length out) × (length (endsOut tol (segments vs fs)) ≤ length es)
+          has-room = (omega (arith, sound vs fs good .used), omega (arith, means .points), omega (arith, means .polylines))
+
+          pub done : (o : List Float) (p : List ℕ) → (o ≡ sets out 0 (flat (pointsOut tol (segments vs fs)))) × (p ≡ sets es 0 (endsOut tol (segments vs fs))) →
+              outcome
+              (record {
+                points = t .starts + t .lines + t .counts + t .closings;
+                polylines = t .starts;
+                starts = t .starts;
+                lines = t .lines;
+                counts = t .counts;
+                closings = t .closings;
+                refused = 0;
+              }) o p
+              ≡ flatten vs fs tol out es
+          unfolding flatten
+          done o p w =
+              let k = means in
+              rw (no-number, w .0, w .1) (cc)

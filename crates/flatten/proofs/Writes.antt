@@ -1,0 +1,161 @@
+-- The writing pass: points and ends stored one behind the other. Assumes nothing.
+use mathlib.Core.Path.{_≡_, refl, ap, _∙_}
+use mathlib.Core.Bool.{Bool, true, false}
+use mathlib.Core.List.{List, [], _∷_, _++_}
+use Prim.Native.Nat.{ℕ, suc, _+_, _*_, _≤_, _<_}
+use native.Mathlib.Numerals.{add-one}
+use native.Mathlib.Omega.{arith}
+use lib.ListN.{length, getD, drop, drop-of-length-le, length-append}
+use lib.Seq.{sets, length-sets}
+use lib.Ieee.{Float}
+use Rattle.vec2.specs.declared.Vec2.{Vec2}
+use Rattle.vec2.specs.Points.{flat}
+use Rattle.vec2.proofs.Points.{flat-append, length-flat, sets-append}
+use Rattle.path.specs.declared.Segment.{Segment}
+use Rattle.path.specs.declared.Segment.the-variants.{Line, Quad, Cubic}
+use Rattle.path.specs.Segment.{used, segAt, segments}
+use Rattle.path.specs.Check.{usedBy}
+use Rattle.path.proofs.Steps.{left, next-left, used-turn}
+use Rattle.curve.specs.Count.{quadCount, cubicCount, evalQuad, evalCubic}
+use Rattle.curve.proofs.Numbers.{counted}
+use Rattle.flatten.specs.declared.Spot.{Spot}
+use Rattle.flatten.specs.Flatten.{after, opens, adds, stops, onlyIf, places, curved, body, writes, written, endings, pointsOut, endsOut}
+use Rattle.flatten.specs.Steps.{Wrote, Ended}
+use Rattle.flatten.proofs.Lengths.{body-length}
+
+-- ---- one after the other
+
+wrote-two : {l m n : List Float} {a b c : ℕ} {ps qs : List Vec2} → Wrote l m a b ps → Wrote m n b c qs → Wrote l n a c (ps ++ qs)
+wrote-two {l} {m} {n} {a} {b} {c} {ps} {qs} p q =
+    let e : 2 * a + length (flat ps) ≡ 2 * (a + length ps) = omega (arith, length-flat ps) in
+    record {
+      stored = q .stored ∙ rw (p .stored, p .moved, flat-append, sets-append, e);
+      moved = simp length-append (omega (arith, p .moved, q .moved));
+    }
+
+-- ---- the body of a segment, by its kind
+
+pub long-line : (tol : Float) (w : Spot) (s : Segment) (p : Vec2) → s ≡ Line p → length (body tol w s) ≡ 1
+unfolding body
+long-line tol w s p e = rw e
+
+-- a curve of n lines that writes n points
+pub record Curve (tol : Float) (w : Spot) (s : Segment) (eval : Float → Vec2) (p : Vec2) (n : ℕ) : Type 0 where
+  pub least : 1 ≤ n
+  pub most : n ≤ 1000
+  pub long : length (body tol w s) ≡ n
+  pub is : body tol w s ≡ curved eval n p
+
+module _ (tol : Float) (w : Spot) (s : Segment) where
+  pub a-quad : (c p : Vec2) → s ≡ Quad c p → (n : ℕ) → n ≡ quadCount tol (w .pen) c p → Curve tol w s (evalQuad (w .pen) c p) p n
+  unfolding body places
+  a-quad c p e n h =
+      record {
+        least = rw h (counted _ _ .one);
+        most = rw h (counted _ _ .most);
+        long = body-length tol w s ∙ rw (e, h) (omega arith);
+        is = rw (e, h);
+      }
+
+  pub a-cubic : (c d p : Vec2) → s ≡ Cubic c d p → (n : ℕ) → n ≡ cubicCount tol (w .pen) c d p → Curve tol w s (evalCubic (w .pen) c d p) p n
+  unfolding body places
+  a-cubic c d p e n h =
+      record {
+        least = rw h (counted _ _ .one);
+        most = rw h (counted _ _ .most);
+        long = body-length tol w s ∙ rw (e, h) (omega arith);
+        is = rw (e, h);
+      }
+
+  pub wrote-curve : {eval : Float → Vec2} {p : Vec2} {n : ℕ} → Curve tol w s eval p n → {l m : List Float} {at : ℕ} →
+      m ≡ sets l (2 * at) (flat (curved eval n p)) → Wrote l m at (at + n) (body tol w s)
+  wrote-curve c h = record { stored = h ∙ rw (c .is); moved = rw (c .long) }
+
+-- ---- a whole segment
+
+pub only-wanted : (l m : List Float) (at : ℕ) (b : Bool) (p : Vec2) → b ≡ true → m ≡ sets l (2 * at) (flat (p ∷ [])) → Wrote l m at (at + 1) (onlyIf b p)
+only-wanted l m at b p e h = rw e (record { stored = h; moved = refl })
+
+pub only-unwanted : (l : List Float) (at : ℕ) (b : Bool) (p : Vec2) → b ≡ false → Wrote l l at at (onlyIf b p)
+only-unwanted l at b p e = rw e (record { stored = refl; moved = omega arith })
+
+module _ (tol : Float) (w : Spot) (s : Segment) (b d : Bool) (eb : b ≡ opens w s) (ed : d ≡ adds w s) where
+  pub long-parts : length (writes tol w s) ≡ length (onlyIf b (w .start)) + length (body tol w s) + length (onlyIf d (w .start))
+  unfolding writes
+  long-parts = rw (eb, ed) (simp length-append)
+
+  pub wrote-segment : {l l1 l2 l3 : List Float} {n n1 n2 n3 : ℕ} →
+      Wrote l l1 n n1 (onlyIf b (w .start)) → Wrote l1 l2 n1 n2 (body tol w s) → Wrote l2 l3 n2 n3 (onlyIf d (w .start)) → Wrote l l3 n n3 (writes tol w s)
+  unfolding writes
+  wrote-segment p q r = rw (← eb, ← ed) (wrote-two (wrote-two p q) r)
+
+-- ---- the writing loop
+
+-- With i verbs read, k points used, n points written and m polylines ended, what the rest would still write over the buffers as they are
+-- gives what the whole gives.
+pub record Writing (vs : List ℕ) (fs : List Float) (tol : Float) (out₀ : List Float) (es₀ : List ℕ) (w : Spot) (i k n m : ℕ) (out : List Float) (ends : List ℕ) : Type 0 where
+  pub here : i ≤ length vs
+  pub reads : 2 * (k + usedBy (drop i vs)) ≤ length fs
+  pub same-out : length out ≡ length out₀
+  pub same-ends : length ends ≡ length es₀
+  pub room : 2 * (n + length (written tol w (left vs fs i k))) ≤ length out₀
+  pub room-ends : m + length (endings tol n w (left vs fs i k)) ≤ length es₀
+  pub points : sets out (2 * n) (flat (written tol w (left vs fs i k))) ≡ sets out₀ 0 (flat (pointsOut tol (segments vs fs)))
+  pub polys : sets ends m (endings tol n w (left vs fs i k)) ≡ sets es₀ 0 (endsOut tol (segments vs fs))
+
+module _ {vs : List ℕ} {fs : List Float} {tol : Float} {out₀ : List Float} {es₀ : List ℕ} {w : Spot} {i k n m : ℕ} {out : List Float} {ends : List ℕ}
+    (g : Writing vs fs tol out₀ es₀ w i k n m out ends) where
+  module _ (h : i < length vs) (s : Segment) (es : s ≡ segAt (getD vs i 0) fs k) where
+    next-written : written tol w (left vs fs i k) ≡ writes tol w s ++ written tol (after w s) (left vs fs (suc i) (k + used (getD vs i 0)))
+    unfolding written
+    next-written = rw (next-left vs fs i k h, es)
+
+    next-endings : endings tol n w (left vs fs i k)
+        ≡ onlyIf (stops w s) n ++ endings tol (n + length (writes tol w s)) (after w s) (left vs fs (suc i) (k + used (getD vs i 0)))
+    unfolding endings
+    next-endings = rw (next-left vs fs i k h, es)
+
+    pub turn-reads : 2 * (k + used (getD vs i 0)) ≤ length fs
+    turn-reads = omega (arith, g .reads, used-turn vs i h)
+
+    pub turn-room : 2 * (n + length (writes tol w s)) ≤ length out
+    turn-room = omega (arith, g .room, g .same-out, simp length-append at (ap length next-written))
+
+    pub turn-ends : (b : Bool) → b ≡ stops w s → m + length (onlyIf b n) ≤ length ends
+    turn-ends b e = rw e (omega (arith, g .room-ends, g .same-ends, simp length-append at (ap length next-endings)))
+
+    pub turn : (b : Bool) → b ≡ stops w s → {es' : List ℕ} {m' : ℕ} → Ended ends es' m m' (onlyIf b n) →
+        {out' : List Float} {n' : ℕ} → Wrote out out' n n' (writes tol w s) →
+        (v : Spot) → v ≡ after w s → (u : ℕ) → u ≡ used (getD vs i 0) → Writing vs fs tol out₀ es₀ v (i + 1) (k + u) n' m' out' es'
+    turn b eb {es'} {m'} e {out'} {n'} p v ev u eu =
+        let f : 2 * n + length (flat (writes tol w s)) ≡ 2 * (n + length (writes tol w s)) = omega (arith, length-flat (writes tol w s)) in
+        record {
+          here = omega arith;
+          reads = omega (arith, g .reads, used-turn vs i h);
+          same-out = ap length (p .stored) ∙ simp length-sets (g .same-out);
+          same-ends = ap length (e .stored) ∙ simp length-sets (g .same-ends);
+          room = rw (ev, eu, add-one i) (omega (arith, g .room, p .moved, simp length-append at (ap length next-written)));
+          room-ends =
+              rw (ev, eu, add-one i, p .moved)
+              (omega (arith, g .room-ends, rw eb at (e .moved), simp length-append at (ap length next-endings)));
+          points = rw (ev, eu, add-one i, p .moved, p .stored, ← f, ← sets-append, ← flat-append, ← next-written) (g .points);
+          polys = rw (ev, eu, add-one i, p .moved, e .moved, e .stored, eb, ← sets-append, ← next-endings) (g .polys);
+        }
+
+  module _ (h : length vs ≤ i) where
+    none-written : written tol w (left vs fs i k) ≡ []
+    unfolding written
+    none-written = rw (drop-of-length-le vs h)
+
+    last-ending : endings tol n w (left vs fs i k) ≡ onlyIf (w .drawn) n
+    unfolding endings
+    last-ending = rw (drop-of-length-le vs h)
+
+    pub last-room : m + length (onlyIf (w .drawn) n) ≤ length ends
+    last-room = omega (arith, g .room-ends, g .same-ends, ap length last-ending)
+
+    pub last-points : out ≡ sets out₀ 0 (flat (pointsOut tol (segments vs fs)))
+    last-points = rw none-written at (g .points)
+
+    pub last-ends : {es' : List ℕ} {m' : ℕ} → Ended ends es' m m' (onlyIf (w .drawn) n) → es' ≡ sets es₀ 0 (endsOut tol (segments vs fs))
+    last-ends e = e .stored ∙ rw last-ending at (g .polys)

@@ -1,0 +1,65 @@
+use Rattle.flatten.proofs.Measures.{count-quad, count-cubic}
+use borrow.Author.Needs.{needs}
+use Rattle.flatten.proofs.curve_count.Statement.{statement}
+use Rattle.flatten.proofs.curve_count.Tie as tie
+
+enum-told : tie.Need-enum-told
+enum-told c = search needs
+
+enum-told-2 : tie.Need-enum-told-2
+enum-told-2 c = search needs
+
+enum-known-s : tie.Need-enum-known-s
+enum-known-s c = search needs
+
+quad-segment-count-requires : tie.Need-quad-segment-count-requires
+quad-segment-count-requires c κs = search needs
+
+cast-result : tie.Need-cast-result
+cast-result c = search needs
+
+enum-known-s-2 : tie.Need-enum-known-s-2
+enum-known-s-2 c = search needs
+
+cubic-segment-count-requires : tie.Need-cubic-segment-count-requires
+cubic-segment-count-requires c κs = search needs
+
+cast-result-2 : tie.Need-cast-result-2
+cast-result-2 c = search needs
+
+enum-told-3 : tie.Need-enum-told-3
+enum-told-3 c = search needs
+
+returns : tie.Need-returns
+returns c = search needs
+
+returns-2 : tie.Need-returns-2
+returns-2 c = search needs
+
+returns-3 : tie.Need-returns-3
+returns-3 c = count-quad _ _ _ _ _ (c .before .before .s .given .1) _ (c .quad-segment-count .ensures)
+
+returns-4 : tie.Need-returns-4
+returns-4 c = count-cubic _ _ _ _ _ _ (c .before .before .s2 .given .1) _ (c .cubic-segment-count .ensures)
+
+returns-5 : tie.Need-returns-5
+returns-5 c = search needs
+
+pub curve-count-spec : {M : Type 1} → statement M
+curve-count-spec =
+    tie.close
+    (tie.spec
+    enum-told
+    enum-told-2
+    enum-known-s
+    quad-segment-count-requires
+    cast-result
+    enum-known-s-2
+    cubic-segment-count-requires
+    cast-result-2
+    enum-told-3
+    returns
+    returns-2
+    returns-3
+    returns-4
+    returns-5)

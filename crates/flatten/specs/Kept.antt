@@ -1,0 +1,65 @@
+-- Demand 3's flattening half over a list of segments: where the end of each line and curve stands, and the totals. Definitions only.
+use mathlib.Core.Path.{_≡_}
+use Prim.Native.Nat.{ℕ, suc, _+_, _≤_, _<_}
+use mathlib.Core.Bool.{true}
+use mathlib.Core.List.{List, [], _∷_, _++_}
+use lib.ListN.{length, getD, take}
+use lib.Ieee.{Float}
+use Rattle.vec2.specs.declared.Vec2.{Vec2}
+use Rattle.vec2.specs.Vec2.{origin}
+use Rattle.path.specs.declared.Segment.{Segment}
+use Rattle.path.specs.declared.Segment.the-variants.{Move, Line, Quad, Cubic, Close}
+use Rattle.path.specs.Segment.{isDrawn, endOf}
+use Rattle.curve.specs.Count.{quadS, cubicS, Counted}
+use Rattle.flatten.specs.declared.Spot.{Spot}
+use Rattle.flatten.specs.declared.Flattened.{Flattened}
+use Rattle.flatten.specs.Flatten.{nowhere, spot, places, opens, onlyIf, written, pointsOut, endsOut, keptStarts, lines, counts, addedClosings}
+
+-- ---- N
+
+-- 1 for a line, else the carried count, of which `Counted` says what demand 3 does
+abbrev pub Carries : Float → Spot → Segment → ℕ → Type 0
+Carries tol w (Move p) n = ⊥
+Carries tol w (Line p) n = n ≡ 1
+Carries tol w (Quad c p) n = Counted (quadS tol (w .pen) c p) n
+Carries tol w (Cubic c d p) n = Counted (cubicS tol (w .pen) c d p) n
+Carries tol w Close n = ⊥
+
+-- ---- one line or curve: s, with `pre` laid before it
+
+-- the points that stand written when s begins: those of what was laid before, and the start of the subpath if s is its first drawn verb
+abbrev pub before : Float → List Segment → Segment → List Vec2
+before tol pre s = written tol nowhere pre ++ onlyIf (opens (spot nowhere pre) s) (spot nowhere pre .start)
+
+abbrev pub carried : Float → List Segment → Segment → ℕ
+carried tol pre s = places tol (spot nowhere pre) s
+
+pub record Stands (tol : Float) (pre : List Segment) (s : Segment) (pts : List Vec2) : Type 0 where
+  -- the place of the point written last before s
+  pub last : ℕ
+  pub is-last : suc last ≡ length (before tol pre s)
+  pub prefix : take (suc last) pts ≡ before tol pre s
+  -- N, and the end of s N places after that point
+  pub count : Carries tol (spot nowhere pre) s (carried tol pre s)
+  pub inside : last + carried tol pre s < length pts
+  pub end : getD pts (last + carried tol pre s) origin ≡ endOf s
+
+-- ---- the whole list
+
+pub record Kept (tol : Float) (ss : List Segment) (t : Flattened) (pts : List Vec2) (ends : List ℕ) : Type 0 where
+  -- every line and curve stands
+  pub stand : (pre : List Segment) (s : Segment) (post : List Segment) → ss ≡ pre ++ s ∷ post → isDrawn s ≡ true → Stands tol pre s pts
+  -- in order: a later one begins no earlier than an earlier one ends
+  pub order : (pre : List Segment) (s : Segment) (mid : List Segment) (u : Segment) (post : List Segment) → ss ≡ pre ++ s ∷ (mid ++ u ∷ post) →
+      isDrawn s ≡ true → isDrawn u ≡ true → length (before tol pre s) + carried tol pre s ≤ length (before tol (pre ++ s ∷ mid) u)
+  -- the totals are those of the list, and the sum holds
+  pub all : t .points ≡ length pts
+  pub polylines : t .polylines ≡ t .starts
+  pub starts : t .starts ≡ keptStarts ss
+  pub lines : t .lines ≡ lines ss
+  pub counts : t .counts ≡ counts tol ss
+  pub closings : t .closings ≡ addedClosings ss
+  pub sum : t .points ≡ t .starts + t .lines + t .counts + t .closings
+  -- points and polylines are those of Flatten, nothing else
+  pub points : pts ≡ pointsOut tol ss
+  pub polys : ends ≡ endsOut tol ss

@@ -1,0 +1,4 @@
+pub mod Flatten
+pub mod Polylines
+pub mod Kept
+pub mod Steps

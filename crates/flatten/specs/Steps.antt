@@ -1,0 +1,52 @@
+-- What the inner functions promise: the measuring pass, and points and ends stored one behind the other. Definitions only.
+use mathlib.Core.Path.{_≡_}
+use Prim.Native.Nat.{ℕ, _+_, _*_, _≤_}
+use mathlib.Core.List.{List, [], _∷_}
+use lib.ListN.{length}
+use lib.Seq.{sets}
+use lib.Ieee.{Float}
+use Rattle.vec2.specs.declared.Vec2.{Vec2}
+use Rattle.vec2.specs.Points.{flat}
+use Rattle.path.specs.declared.Segment.{Segment}
+use Rattle.path.specs.Segment.{isLine}
+use Rattle.flatten.specs.declared.Spot.{Spot}
+use Rattle.flatten.specs.declared.Tally.{Tally}
+use Rattle.flatten.specs.Flatten.{after, one, opens, adds, curveCount}
+
+-- ---- the measuring pass
+
+abbrev pub none : Tally
+none = record { starts = 0; lines = 0; counts = 0; closings = 0 }
+
+unfoldable pub tally : Float → Spot → Segment → Tally → Tally
+tally tol w s t =
+    record {
+      starts = t .starts + one (opens w s);
+      lines = t .lines + one (isLine s);
+      counts = t .counts + curveCount tol w s;
+      closings = t .closings + one (adds w s);
+    }
+
+unfoldable pub measured : Float → Tally → Spot → List Segment → Tally
+unfolding tally
+measured tol t w [] = t
+measured tol t w (s ∷ ss) = measured tol (tally tol w s t) (after w s) ss
+
+-- after n segments
+pub record Small (n : ℕ) (t : Tally) : Type 0 where
+  pub starts : t .starts ≤ n
+  pub lines : t .lines ≤ n
+  pub counts : t .counts ≤ 1000 * n
+  pub closings : t .closings ≤ n
+
+-- ---- the writing pass
+
+-- points stored from point `at` on, and the place behind them
+pub record Wrote (before left : List Float) (at next : ℕ) (ps : List Vec2) : Type 0 where
+  pub stored : left ≡ sets before (2 * at) (flat ps)
+  pub moved : next ≡ at + length ps
+
+-- ends stored from place `at` on, and the place behind them
+pub record Ended (before left : List ℕ) (at next : ℕ) (es : List ℕ) : Type 0 where
+  pub stored : left ≡ sets before at es
+  pub moved : next ≡ at + length es

@@ -1,0 +1,477 @@
+// Flattening: a path's polylines as points, end to end, and the number where each ends. Measured first, written after.
+ghost use mathlib.Core.Path.{_≡_};
+ghost use mathlib.Core.List.{_∷_, []};
+ghost use Prim.Native.Nat.{_+_, _*_, _≤_};
+ghost use lib.ListN.{length};
+ghost use lib.Seq.{sets};
+ghost use Rattle.vec2.specs.Points.{flat};
+ghost use Rattle.path.specs.Segment.{isLine, segments};
+ghost use Rattle.path.specs.Check.{usedBy};
+ghost use Rattle.curve.specs.Count.{evalQuad, evalCubic};
+ghost use Rattle.flatten.specs.Flatten.{nowhere, closes, drawnTo, closed, after, opens, adds, stops, one, onlyIf, curveCount, curved, body, writes, pointsOut, endsOut, outcome, refusedBy, flatten, countAt, carriedCount};
+ghost use Rattle.flatten.specs.Steps.{none, tally, measured, Small, Wrote, Ended};
+use path::Cursor;
+use path::Segment;
+use path::Step;
+use vec2::Vec2;
+
+// The answer: the totals and the refusal's number, 0 for none. In a refusal the totals are all 0.
+pub struct Flattened {
+    pub points: usize,
+    pub polylines: usize,
+    pub starts: usize,
+    pub lines: usize,
+    pub counts: usize,
+    pub closings: usize,
+    pub refused: u8,
+}
+
+// A carried count, or the refusal's number beside a 0.
+pub struct Carried {
+    pub count: usize,
+    pub refused: u8,
+}
+
+// Where a flattening stands: the latest move's point, with which its polyline begins; the point that the next verb is drawn from; the point written
+// last; and whether the polyline has a drawn verb, so that its start is written.
+pub struct Spot {
+    pub start: Vec2,
+    pub pen: Vec2,
+    pub last: Vec2,
+    pub drawn: bool,
+}
+
+// The four totals that a segment adds to.
+pub struct Tally {
+    pub starts: usize,
+    pub lines: usize,
+    pub counts: usize,
+    pub closings: usize,
+}
+
+// ---- where a flattening stands
+
+fn start_of_path() -> Spot
+    ensures { λ r. ⌜ r ≡ nowhere ⌝ }
+{
+    let o = Vec2::zero();
+    Spot {
+        start: o,
+        pen: o,
+        last: o,
+        drawn: false,
+    }
+}
+
+// Whether a close writes the move's point. A start that is a NaN equals nothing, itself included.
+fn close_adds(w: Spot) -> bool
+    ensures { λ r. ⌜ r ≡ closes w ⌝ }
+{
+    let start = w.start;
+    let last = w.last;
+    if !w.drawn {
+        return false;
+    }
+    if start.same(start) {
+        return !last.same(start);
+    }
+    false
+}
+
+fn drawn_to(w: Spot, p: Vec2) -> Spot
+    ensures { λ r. ⌜ r ≡ drawnTo w p ⌝ }
+{
+    let start = w.start;
+    Spot {
+        start,
+        pen: p,
+        last: p,
+        drawn: true,
+    }
+}
+
+fn close(w: Spot) -> Spot
+    ensures { λ r. ⌜ r ≡ closed w ⌝ }
+{
+    let start = w.start;
+    let mut last = w.last;
+    if close_adds(w) {
+        last = start;
+    }
+    Spot {
+        start,
+        pen: start,
+        last,
+        drawn: w.drawn,
+    }
+}
+
+// Where a flattening stands after a segment.
+fn advance(w: Spot, s: Segment) -> Spot
+    ensures { λ r. ⌜ r ≡ after w s ⌝ }
+{
+    match s {
+        Segment::Move(p) => Spot {
+            start: p,
+            pen: p,
+            last: p,
+            drawn: false,
+        },
+        Segment::Line(p) => drawn_to(w, p),
+        Segment::Quad(_, p) => drawn_to(w, p),
+        Segment::Cubic(_, _, p) => drawn_to(w, p),
+        Segment::Close => close(w),
+    }
+}
+
+// ---- one segment, measured
+
+fn as_one(b: bool) -> usize
+    ensures { λ r. ⌜ (r ≡ one b) × (r ≤ 1) ⌝ }
+{
+    if b { 1 } else { 0 }
+}
+
+// Whether a segment makes its polyline begin.
+fn begins(w: Spot, s: Segment) -> bool
+    ensures { λ r. ⌜ r ≡ opens w s ⌝ }
+{
+    match s {
+        Segment::Move(_) => false,
+        Segment::Line(_) => !w.drawn,
+        Segment::Quad(_, _) => !w.drawn,
+        Segment::Cubic(_, _, _) => !w.drawn,
+        Segment::Close => false,
+    }
+}
+
+fn is_line(s: Segment) -> bool
+    ensures { λ r. ⌜ r ≡ isLine s ⌝ }
+{
+    match s {
+        Segment::Move(_) => false,
+        Segment::Line(_) => true,
+        Segment::Quad(_, _) => false,
+        Segment::Cubic(_, _, _) => false,
+        Segment::Close => false,
+    }
+}
+
+// Whether a segment adds a closing.
+fn adds_closing(w: Spot, s: Segment) -> bool
+    ensures { λ r. ⌜ r ≡ adds w s ⌝ }
+{
+    match s {
+        Segment::Move(_) => false,
+        Segment::Line(_) => false,
+        Segment::Quad(_, _) => false,
+        Segment::Cubic(_, _, _) => false,
+        Segment::Close => close_adds(w),
+    }
+}
+
+// Whether a segment ends the polyline before it.
+fn ends_polyline(w: Spot, s: Segment) -> bool
+    ensures { λ r. ⌜ r ≡ stops w s ⌝ }
+{
+    match s {
+        Segment::Move(_) => w.drawn,
+        Segment::Line(_) => false,
+        Segment::Quad(_, _) => false,
+        Segment::Cubic(_, _, _) => false,
+        Segment::Close => false,
+    }
+}
+
+// A curve's N, and 0 for what is no curve.
+fn curve_count(tolerance: f32, w: Spot, s: Segment) -> usize
+    ensures { λ r. ⌜ (r ≡ curveCount tolerance w s) × (r ≤ 1000) ⌝ }
+{
+    let pen = w.pen;
+    match s {
+        Segment::Move(_) => 0,
+        Segment::Line(_) => 0,
+        Segment::Quad(c, p) => curve::quad_segment_count(pen, c, p, tolerance) as usize,
+        Segment::Cubic(c, d, p) => curve::cubic_segment_count(pen, c, d, p, tolerance) as usize,
+        Segment::Close => 0,
+    }
+}
+
+// The totals with one segment more.
+fn add_segment(t: Tally, tolerance: f32, w: Spot, s: Segment) -> Tally
+    requires { ⌜ Small 65536 t ⌝ }
+    ensures { λ r. ⌜ r ≡ tally tolerance w s t ⌝ }
+{
+    let opens = begins(w, s);
+    let line = is_line(s);
+    let n = curve_count(tolerance, w, s);
+    let adds = adds_closing(w, s);
+    let a = as_one(opens);
+    let b = as_one(line);
+    let d = as_one(adds);
+    Tally {
+        starts: t.starts + a,
+        lines: t.lines + b,
+        counts: t.counts + n,
+        closings: t.closings + d,
+    }
+}
+
+// The totals of a whole path.
+fn measure(verbs: &[u8], points: &[f32], tolerance: f32) -> Tally
+    requires { ⌜ (length (now verbs) ≤ 65536) × (2 * usedBy (now verbs) ≤ length (now points)) ⌝ }
+    ensures { λ r. ⌜ (r ≡ measured tolerance none nowhere (segments (now (verbs .entry)) (now (points .entry)))) × Small 65536 r ⌝ }
+{
+    let mut w = start_of_path();
+    let mut t = Tally {
+        starts: 0,
+        lines: 0,
+        counts: 0,
+        closings: 0,
+    };
+    let mut c = Cursor { verb: 0, point: 0 };
+    loop {
+        let step = path::next(verbs, points, c);
+        let Step::Next(s, d) = step else {
+            return t;
+        };
+        t = add_segment(t, tolerance, w, s);
+        w = advance(w, s);
+        c = d;
+    }
+}
+
+// ---- one segment, written
+
+fn put_point(out: &mut [f32], at: usize, p: Vec2)
+    requires { ⌜ 2 * (at + 1) ≤ length (now out) ⌝ }
+    ensures { λ r. ⌜ now (out .exit) ≡ sets (now (out .entry)) (2 * at) (flat (p ∷ [])) ⌝ }
+{
+    let j = 2 * at;
+    out[j] = p.x;
+    out[j + 1] = p.y;
+}
+
+// Writes a point if it is wanted, and says where the next one goes.
+fn put_if(out: &mut [f32], at: usize, wanted: bool, p: Vec2) -> usize
+    requires { ⌜ 2 * (at + length (onlyIf wanted p)) ≤ length (now out) ⌝ }
+    ensures { λ r. ⌜ Wrote (now (out .entry)) (now (out .exit)) at r (onlyIf wanted p) ⌝ }
+{
+    if wanted {
+        put_point(out, at, p);
+        return at + 1;
+    }
+    at
+}
+
+// Writes the points of a quad of n lines, from point `at` on: the inner ones, and the end, copied.
+fn write_quad(out: &mut [f32], at: usize, a: Vec2, c: Vec2, p: Vec2, n: usize)
+    requires { ⌜ (1 ≤ n) × (n ≤ 1000) × (2 * (at + n) ≤ length (now out)) ⌝ }
+    ensures { λ r. ⌜ now (out .exit) ≡ sets (now (out .entry)) (2 * at) (flat (curved (evalQuad a c p) n p)) ⌝ }
+{
+    let mut k: usize = 0;
+    let m = n - 1;
+    let whole = n as f32;
+    while k < m {
+        let i = k + 1;
+        let t = i as f32 / whole;
+        let q = curve::eval_quad(a, c, p, t);
+        let j = 2 * (at + k);
+        out[j] = q.x;
+        out[j + 1] = q.y;
+        k = i;
+    }
+    let j = 2 * (at + m);
+    out[j] = p.x;
+    out[j + 1] = p.y;
+}
+
+// The same for a cubic.
+fn write_cubic(out: &mut [f32], at: usize, a: Vec2, c: Vec2, d: Vec2, p: Vec2, n: usize)
+    requires { ⌜ (1 ≤ n) × (n ≤ 1000) × (2 * (at + n) ≤ length (now out)) ⌝ }
+    ensures { λ r. ⌜ now (out .exit) ≡ sets (now (out .entry)) (2 * at) (flat (curved (evalCubic a c d p) n p)) ⌝ }
+{
+    let mut k: usize = 0;
+    let m = n - 1;
+    let whole = n as f32;
+    while k < m {
+        let i = k + 1;
+        let t = i as f32 / whole;
+        let q = curve::eval_cubic(a, c, d, p, t);
+        let j = 2 * (at + k);
+        out[j] = q.x;
+        out[j + 1] = q.y;
+        k = i;
+    }
+    let j = 2 * (at + m);
+    out[j] = p.x;
+    out[j + 1] = p.y;
+}
+
+// Writes the inner points of a drawn segment, and its end.
+fn write_body(out: &mut [f32], at: usize, tolerance: f32, w: Spot, s: Segment) -> usize
+    requires { ⌜ 2 * (at + length (body tolerance w s)) ≤ length (now out) ⌝ }
+    ensures { λ r. ⌜ Wrote (now (out .entry)) (now (out .exit)) at r (body tolerance w s) ⌝ }
+{
+    let pen = w.pen;
+    match s {
+        Segment::Move(_) => at,
+        Segment::Line(p) => {
+            put_point(out, at, p);
+            at + 1
+        }
+        Segment::Quad(c, p) => {
+            let n = curve::quad_segment_count(pen, c, p, tolerance) as usize;
+            write_quad(out, at, pen, c, p, n);
+            at + n
+        }
+        Segment::Cubic(c, d, p) => {
+            let n = curve::cubic_segment_count(pen, c, d, p, tolerance) as usize;
+            write_cubic(out, at, pen, c, d, p, n);
+            at + n
+        }
+        Segment::Close => at,
+    }
+}
+
+// Writes what a segment writes from point `at` on, and says where the next point goes.
+fn write_segment(out: &mut [f32], at: usize, tolerance: f32, w: Spot, s: Segment) -> usize
+    requires { ⌜ 2 * (at + length (writes tolerance w s)) ≤ length (now out) ⌝ }
+    ensures { λ r. ⌜ Wrote (now (out .entry)) (now (out .exit)) at r (writes tolerance w s) ⌝ }
+{
+    let start = w.start;
+    let opens = begins(w, s);
+    let adds = adds_closing(w, s);
+    let a = put_if(out, at, opens, start);
+    let b = write_body(out, a, tolerance, w, s);
+    put_if(out, b, adds, start)
+}
+
+// Notes that a polyline ends at n points, if one does, and says where the next note goes.
+fn end_if(ends: &mut [usize], m: usize, wanted: bool, n: usize) -> usize
+    requires { ⌜ m + length (onlyIf wanted n) ≤ length (now ends) ⌝ }
+    ensures { λ r. ⌜ Ended (now (ends .entry)) (now (ends .exit)) m r (onlyIf wanted n) ⌝ }
+{
+    if wanted {
+        ends[m] = n;
+        return m + 1;
+    }
+    m
+}
+
+// Writes a whole path.
+fn write_path(verbs: &[u8], points: &[f32], tolerance: f32, out: &mut [f32], ends: &mut [usize])
+    requires { ⌜ (2 * usedBy (now verbs) ≤ length (now points)) × (2 * length (pointsOut tolerance (segments (now verbs) (now points))) ≤ length (now out)) × (length (endsOut tolerance (segments (now verbs) (now points))) ≤ length (now ends)) ⌝ }
+    ensures { λ r. ⌜ (now (out .exit) ≡ sets (now (out .entry)) 0 (flat (pointsOut tolerance (segments (now (verbs .entry)) (now (points .entry)))))) × (now (ends .exit) ≡ sets (now (ends .entry)) 0 (endsOut tolerance (segments (now (verbs .entry)) (now (points .entry))))) ⌝ }
+{
+    let mut w = start_of_path();
+    let mut c = Cursor { verb: 0, point: 0 };
+    let mut at: usize = 0;
+    let mut m: usize = 0;
+    loop {
+        let step = path::next(verbs, points, c);
+        let Step::Next(s, d) = step else {
+            end_if(ends, m, w.drawn, at);
+            return;
+        };
+        let stopped = ends_polyline(w, s);
+        m = end_if(ends, m, stopped, at);
+        at = write_segment(out, at, tolerance, w, s);
+        w = advance(w, s);
+        c = d;
+    }
+}
+
+// ---- the call
+
+fn refusal(n: u8) -> Flattened
+    ensures { λ r. ⌜ r ≡ refusedBy n ⌝ }
+{
+    Flattened {
+        points: 0,
+        polylines: 0,
+        starts: 0,
+        lines: 0,
+        counts: 0,
+        closings: 0,
+        refused: n,
+    }
+}
+
+// Flattens a path into points, end to end, and the number of points at which each polyline ends.
+pub fn flatten(
+    verbs: &[u8],
+    points: &[f32],
+    tolerance: f32,
+    out: &mut [f32],
+    ends: &mut [usize],
+) -> Flattened
+    ensures { λ r. ⌜ outcome r (now (out .exit)) (now (ends .exit)) ≡ flatten (now (verbs .entry)) (now (points .entry)) tolerance (now (out .entry)) (now (ends .entry)) ⌝ }
+{
+    if out.len() % 2 == 1 {
+        return refusal(1);
+    }
+    let bad = path::check(verbs, points);
+    if bad != 0 {
+        return refusal(bad);
+    }
+    let t = measure(verbs, points, tolerance);
+    let n = t.starts + t.lines + t.counts + t.closings;
+    if out.len() / 2 < n {
+        return refusal(3);
+    }
+    if ends.len() < t.starts {
+        return refusal(3);
+    }
+    write_path(verbs, points, tolerance, out, ends);
+    Flattened {
+        points: n,
+        polylines: t.starts,
+        starts: t.starts,
+        lines: t.lines,
+        counts: t.counts,
+        closings: t.closings,
+        refused: 0,
+    }
+}
+
+// ---- a carried count
+
+// The N of the verb at `index`: 0 where that is no curve, or past the end.
+fn count_at(verbs: &[u8], points: &[f32], tolerance: f32, index: usize) -> usize
+    requires { ⌜ 2 * usedBy (now verbs) ≤ length (now points) ⌝ }
+    ensures { λ r. ⌜ r ≡ countAt tolerance nowhere (segments (now (verbs .entry)) (now (points .entry))) index ⌝ }
+{
+    let mut w = start_of_path();
+    let mut c = Cursor { verb: 0, point: 0 };
+    loop {
+        let step = path::next(verbs, points, c);
+        let Step::Next(s, d) = step else {
+            return 0;
+        };
+        let i = c.verb;
+        if i == index {
+            return curve_count(tolerance, w, s);
+        }
+        w = advance(w, s);
+        c = d;
+    }
+}
+
+// The N that the curve at verb `index` is written with.
+pub fn carried_count(verbs: &[u8], points: &[f32], tolerance: f32, index: usize) -> Carried
+    ensures { λ r. ⌜ r ≡ carriedCount (now (verbs .entry)) (now (points .entry)) tolerance index ⌝ }
+{
+    let bad = path::check(verbs, points);
+    if bad != 0 {
+        return Carried {
+            count: 0,
+            refused: bad,
+        };
+    }
+    let n = count_at(verbs, points, tolerance, index);
+    Carried {
+        count: n,
+        refused: 0,
+    }
+}
