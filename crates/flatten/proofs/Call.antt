@@ -26,6 +26,7 @@ first-false false b h = (refl, h)
 
 pub record Sound (vs : List ℕ) (fs : List Float) : Type 0 where
   pub few : length vs ≤ 65536
+  pub first : badFirst vs ≡ false
   pub used : usedBy vs ≡ length fs / 2
 
 none-of : (a b d e : Bool) → _≡_ {A = ℕ} (cond a 1 (cond b 4 (cond d 5 (cond e 6 0)))) 0 → (b ≡ false) × (e ≡ false)
@@ -39,9 +40,11 @@ pub sound : (vs : List ℕ) (fs : List Float) → badPath vs fs ≡ 0 → Sound 
 unfolding badPath
 sound vs fs h =
     let n = none-of (eqb (length fs % 2) 1) (ltb 65536 (length vs) || ltb 131072 (length fs / 2)) (anyOver4 vs) (badFirst vs || not (eqb (usedBy vs) (length fs / 2))) h in
+    let f = first-false (badFirst vs) (not (eqb (usedBy vs) (length fs / 2))) (n .1) in
     record {
       few = ltb-false 65536 (length vs) (first-false (ltb 65536 (length vs)) (ltb 131072 (length fs / 2)) (n .0) .0);
-      used = eqb-true (usedBy vs) (length fs / 2) (not-false _ (first-false (badFirst vs) (not (eqb (usedBy vs) (length fs / 2))) (n .1) .1));
+      first = f .0;
+      used = eqb-true (usedBy vs) (length fs / 2) (not-false _ (f .1));
     }
 
 -- ---- the ways out, in their order

@@ -5,3 +5,7 @@ pub mod Measures
 pub mod Writes
 pub mod Call
 pub mod Counts
+pub mod Ends
+pub mod Kept
+pub mod Source
+pub mod Examples

@@ -1,0 +1,93 @@
+-- Demand 3's flattening half over a list of segments (`kept`), and over the answer and the outputs of a call that is not refused (`call-kept`).
+-- Assumes nothing.
+use mathlib.Core.Path.{_≡_, refl, ap, _∙_}
+use mathlib.Core.Bool.{Bool, true, false, not, cond}
+use mathlib.Core.List.{List}
+use Prim.Native.Nat.{ℕ, zero, suc, _*_, _/_, _%_, _≤_}
+use native.Mathlib.Omega.{arith}
+use borrow.Author.Tests.{ltb-false, eqb-false}
+use lib.Dec.{ltb, eqb}
+use lib.ListN.{length, take}
+use lib.Seq.{sets, sets-eq, take-at}
+use lib.Ieee.{Float}
+use Rattle.vec2.specs.Points.{flat, pointsIn}
+use Rattle.vec2.proofs.Points.{length-flat, pointsIn-flat}
+use Rattle.path.specs.declared.Segment.{Segment}
+use Rattle.path.specs.Segment.{segments}
+use Rattle.path.specs.Check.{badPath}
+use Rattle.flatten.specs.Flatten.{pointsOut, endsOut, told, flatRefusal, Outcome, replied, flatten}
+use Rattle.flatten.specs.Kept.{Kept}
+use Rattle.flatten.proofs.Lengths.{sum, polylines-are-starts}
+use Rattle.flatten.proofs.Ends.{stands, in-order}
+use Rattle.flatten.proofs.Call.{first-false}
+
+pub kept : (tol : Float) (ss : List Segment) → Kept tol ss (told tol ss) (pointsOut tol ss) (endsOut tol ss)
+kept tol ss =
+    record {
+      stand = λ pre s post e h. rw e (stands tol pre s post h);
+      order = λ pre s mid u post e h g. in-order tol pre s mid u h;
+      all = refl;
+      polylines = polylines-are-starts tol ss;
+      starts = refl;
+      lines = refl;
+      counts = refl;
+      closings = refl;
+      sum = sum tol ss;
+      points = refl;
+      polys = refl;
+    }
+
+-- ---- a call that is not refused
+
+fits : (a b d : Bool) (n : ℕ) → eqb n 0 ≡ b → _≡_ {A = ℕ} (cond a 1 (cond (not b) n (cond d 3 0))) 0 → d ≡ false
+fits true b d n e h = absurd (omega arith)
+fits false true true n e h = absurd (omega arith)
+fits false true false n e h = refl
+fits false false d n e h = absurd (eqb-false n 0 e h)
+
+-- what is stored from the first place on is what stands there
+module _ {A : Type 0} where
+  pub take-stored : (l vs : List A) (n : ℕ) → length vs ≡ n → n ≤ length l → take n (sets l 0 vs) ≡ vs
+  take-stored l vs n e h = rw (sets-eq vs l 0 (omega arith)) (take-at vs _ n e)
+
+-- the points and the ends that the outputs hold
+pub record Filled (vs : List ℕ) (fs : List Float) (tol : Float) (r : Outcome) : Type 0 where
+  pub answer : r .answer ≡ told tol (segments vs fs)
+  pub points : pointsIn (take (2 * r .answer .points) (r .floats)) ≡ pointsOut tol (segments vs fs)
+  pub polys : take (r .answer .polylines) (r .ends) ≡ endsOut tol (segments vs fs)
+
+module _ (vs : List ℕ) (fs : List Float) (tol : Float) (out : List Float) (es : List ℕ) where
+  room : flatRefusal vs fs tol out es ≡ 0 →
+      (2 * length (pointsOut tol (segments vs fs)) ≤ length out) × (length (endsOut tol (segments vs fs)) ≤ length es)
+  unfolding flatRefusal
+  room h =
+      let r : (ltb (length out / 2) (length (pointsOut tol (segments vs fs))) ≡ false) × (ltb (length es) (length (endsOut tol (segments vs fs))) ≡ false) = first-false _ _ (fits (eqb (length out % 2) 1) _ _ (badPath vs fs) refl h) in (
+        omega (arith, ltb-false (length out / 2) (length (pointsOut tol (segments vs fs))) (r .0)),
+        ltb-false (length es) (length (endsOut tol (segments vs fs))) (r .1),
+      )
+
+  filled-by : (n : ℕ) → flatRefusal vs fs tol out es ≡ n →
+      replied n tol (segments vs fs) out es .answer .refused ≡ 0 → Filled vs fs tol (replied n tol (segments vs fs) out es)
+  filled-by zero e h =
+      let r = room e in
+      record {
+        answer = refl;
+        points =
+            ap pointsIn
+            (take-stored out (flat (pointsOut tol (segments vs fs))) (2 * length (pointsOut tol (segments vs fs)))
+            (length-flat (pointsOut tol (segments vs fs))) (r .0))
+            ∙ pointsIn-flat (pointsOut tol (segments vs fs));
+        polys = take-stored es (endsOut tol (segments vs fs)) (length (endsOut tol (segments vs fs))) refl (r .1);
+      }
+  filled-by (suc n) e h = absurd (omega arith)
+
+  pub filled : flatten vs fs tol out es .answer .refused ≡ 0 → Filled vs fs tol (flatten vs fs tol out es)
+  unfolding flatten
+  filled h = filled-by (flatRefusal vs fs tol out es) refl h
+
+  pub call-kept : flatten vs fs tol out es .answer .refused ≡ 0 →
+      let r : Outcome = flatten vs fs tol out es in
+      Kept tol (segments vs fs) (r .answer) (pointsIn (take (2 * r .answer .points) (r .floats))) (take (r .answer .polylines) (r .ends))
+  call-kept h =
+      let f = filled h in
+      rw (f .points, f .polys, f .answer) (kept tol (segments vs fs))
