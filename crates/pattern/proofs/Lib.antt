@@ -1,0 +1,3 @@
+pub mod Cycles
+pub mod Styles
+pub mod Choices
