@@ -1,0 +1,96 @@
+-- The laws of the walk along a list of points, and of laying one list of events behind another. Assumes nothing.
+use mathlib.Core.Path.{_≡_, refl, sym, _∙_, ap, subst}
+use Prim.Native.Nat.{ℕ, _+_, _≤_, _<_}
+use native.Mathlib.Omega.{arith}
+use native.Mathlib.Numerals.{add-one}
+use mathlib.Core.Bool.{Bool, true, false, true≢false}
+use mathlib.Core.List.{List, [], _∷_, _++_}
+use lib.ListN.{length, getD, drop, length-drop}
+use lib.Seq.{drop-cons}
+use lib.Ieee.{Float, nan}
+use Rattle.vec2.specs.declared.Vec2.{Vec2}
+use Rattle.vec2.specs.Vec2.{vec}
+use Rattle.vec2.specs.Points.{pointsIn}
+use Rattle.walk.specs.declared.Pos.{Pos}
+use Rattle.walk.specs.declared.Event.{Event}
+use Rattle.walk.specs.declared.Leg.{Leg}
+use Rattle.float.specs.Arith.{f0}
+use Rattle.walk.specs.Walk.{Told, place, cutFrom, passed, counts, legOf, walkFrom, walkPolyline}
+use Rattle.walk.proofs.Lays.{room-start}
+use Rattle.walk.specs.Lay.{Room, Sheet, laid, layEvent, layAll}
+
+pub lay-append : (s : Sheet) (es fs : List Event) → layAll s (es ++ fs) ≡ layAll (layAll s es) fs
+lay-append s [] fs = refl
+lay-append s (e ∷ es) fs = lay-append (layEvent s e) es fs
+
+pub did : (b : Bool) (cs : List Float) (g : Leg) (p : Pos) → b ≡ true → cutFrom cs g (place p f0) ≡ passed b cs g p
+did true cs g p h = refl
+did false cs g p h = absurd (true≢false (sym h))
+
+pub did-not : (b : Bool) (cs : List Float) (g : Leg) (p : Pos) → b ≡ false → record { events = []; pos = p } ≡ passed b cs g p
+did-not true cs g p h = absurd (true≢false h)
+did-not false cs g p h = refl
+
+-- a loop that goes through a list by its index
+pub drop-next : {A : Type 0} (xs : List A) (i : ℕ) (d : A) → i < length xs → drop i xs ≡ getD xs i d ∷ drop (i + 1) xs
+drop-next xs i d h = drop-cons xs i d h ∙ ap (λ (k : ℕ). getD xs i d ∷ drop k xs) (sym (add-one i))
+
+-- one point more
+pub next-point : (fs : List Float) (i : ℕ) → i + 1 < length fs → pointsIn (drop i fs) ≡ vec (getD fs i nan) (getD fs (i + 1) nan) ∷ pointsIn (drop (i + 2) fs)
+next-point fs i h =
+    ap pointsIn (drop-next fs i nan (omega arith) ∙ ap (λ (l : List Float). getD fs i nan ∷ l) (drop-next fs (i + 1) nan h))
+    ∙ ap (λ (k : ℕ). vec (getD fs i nan) (getD fs (i + 1) nan) ∷ pointsIn (drop k fs)) (two i)
+  where
+    two : (i : ℕ) → i + 1 + 1 ≡ i + 2
+    two i = omega arith
+
+no-point : (l : List Float) → length l ≤ 1 → pointsIn l ≡ []
+no-point [] h = refl
+no-point (u ∷ []) h = refl
+no-point (u ∷ v ∷ l) h = absurd (omega arith)
+
+pub no-points : (fs : List Float) (i : ℕ) → length fs ≤ i + 1 → pointsIn (drop i fs) ≡ []
+no-points fs i h = no-point (drop i fs) (omega (arith, length-drop i fs))
+
+module _ (cs : List Float) where
+  -- one leg: what is laid after it is what was to be laid before it
+  leg-on : (a b : Vec2) (ps : List Vec2) (p p' : Pos) (o o' : Sheet) (g : Leg) → g ≡ legOf a b → p' ≡ passed (counts g) cs g p .pos → o' ≡ layAll o (passed (counts g) cs g p .events)
+      → layAll o' (walkFrom cs b ps p') ≡ layAll o (walkFrom cs a (b ∷ ps) p)
+  unfolding walkFrom
+  leg-on a b ps p p' o o' g eg ep eo =
+      let c : Leg → Told = λ z. passed (counts z) cs z p in
+      let rest : Pos → List Event = λ q. walkFrom cs b ps q in
+      ap (λ (q : Pos). layAll o' (rest q)) ep
+      ∙ ap (λ (z : Sheet). layAll z (rest (c g .pos))) eo
+      ∙ sym (lay-append o (c g .events) (rest (c g .pos)))
+      ∙ ap (λ (z : Leg). layAll o (c z .events ++ rest (c z .pos))) eg
+
+  pub walk-on : (a : Vec2) (fs : List Float) (i : ℕ) (p p' : Pos) (o o' : Sheet) (g : Leg) → i + 1 < length fs → g ≡ legOf a (vec (getD fs i nan) (getD fs (i + 1) nan))
+      → p' ≡ passed (counts g) cs g p .pos → o' ≡ layAll o (passed (counts g) cs g p .events)
+      → layAll o' (walkFrom cs (vec (getD fs i nan) (getD fs (i + 1) nan)) (pointsIn (drop (i + 2) fs)) p') ≡ layAll o (walkFrom cs a (pointsIn (drop i fs)) p)
+  walk-on a fs i p p' o o' g h eg ep eo =
+      leg-on a (vec (getD fs i nan) (getD fs (i + 1) nan)) (pointsIn (drop (i + 2) fs)) p p' o o' g eg ep eo ∙ ap (λ (l : List Vec2). layAll o (walkFrom cs a l p)) (sym (next-point fs i h))
+
+  -- a leg has room where all that is left has
+  pub room-leg : (n m : ℕ) (a : Vec2) (fs : List Float) (i : ℕ) (p : Pos) (o : Sheet) (g : Leg) → i + 1 < length fs → g ≡ legOf a (vec (getD fs i nan) (getD fs (i + 1) nan)) →
+      Room n m (layAll o (walkFrom cs a (pointsIn (drop i fs)) p) .page) → Room n m (layAll o (passed (counts g) cs g p .events) .page)
+  room-leg n m a fs i p o g h eg r =
+      let b = vec (getD fs i nan) (getD fs (i + 1) nan) in
+      let q = passed (counts g) cs g p .pos in
+      let e = walk-on a fs i p q o (layAll o (passed (counts g) cs g p .events)) g h eg refl refl in
+      room-start n m (layAll o (passed (counts g) cs g p .events)) (walkFrom cs b (pointsIn (drop (i + 2) fs)) q) (subst (λ (z : Sheet). Room n m (z .page)) (sym e) r)
+
+  walk-nil : (a : Vec2) (p : Pos) → walkFrom cs a [] p ≡ []
+  unfolding walkFrom
+  walk-nil a p = refl
+
+  pub walk-end : (a : Vec2) (fs : List Float) (i : ℕ) (p : Pos) → length fs ≤ i + 1 → walkFrom cs a (pointsIn (drop i fs)) p ≡ []
+  walk-end a fs i p h = ap (λ (l : List Vec2). walkFrom cs a l p) (no-points fs i h) ∙ walk-nil a p
+
+  pub walk-start : (fs : List Float) (p : Pos) → 2 ≤ length fs → walkPolyline cs p (pointsIn fs) ≡ walkFrom cs (vec (getD fs 0 nan) (getD fs 1 nan)) (pointsIn (drop 2 fs)) p
+  walk-start [] p h = absurd (omega arith)
+  walk-start (x ∷ []) p h = absurd (omega arith)
+  walk-start (x ∷ y ∷ l) p h = refl
+
+  pub walk-none : (fs : List Float) (p : Pos) → length fs < 2 → walkPolyline cs p (pointsIn fs) ≡ []
+  walk-none fs p h = ap (walkPolyline cs p) (no-point fs (omega arith))

@@ -1,0 +1,7 @@
+pub mod Loop
+pub mod Walk
+pub mod Phase
+pub mod Drawn
+pub mod Lay
+pub mod Count
+pub mod Runs

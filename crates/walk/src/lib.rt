@@ -1,0 +1,409 @@
+// The walk of a polyline by a dash cycle: first counted, then laid.
+ghost use mathlib.Core.Path.{_≡_};
+ghost use mathlib.Core.Bool.{false};
+ghost use Prim.Native.Nat.{_+_, _*_, _^_, _≤_, _<_};
+ghost use lib.ListN.{length};
+ghost use Rattle.float.specs.Arith.{f0};
+ghost use Rattle.vec2.specs.Points.{pointsIn};
+ghost use Rattle.walk.specs.Walk.{after, turned, pointOn, inside as insideOf, resting as restingOf, rested, place, cutFrom, passed, counts, legOf, walkPolyline};
+ghost use Rattle.walk.specs.Phase.{startOf};
+ghost use Rattle.walk.specs.Drawn.{drawn};
+ghost use Rattle.walk.specs.Lay.{sheet, out, layVerb, stroke, layEvent, layAll, laid, Room};
+ghost use Rattle.walk.specs.Count.{tallyStroke, tallyCut, tallyRest, tallied, UpTo, laidBy, itself};
+use vec2::Vec2;
+
+// Where the walk is in the cycle. `left` is what is left of the interval at `index`.
+pub struct Pos {
+    pub index: usize,
+    pub left: f32,
+    pub drawing: bool,
+}
+
+// A segment of a polyline: its start, the way to its end, its end and its length.
+pub struct Leg {
+    pub from: Vec2,
+    pub way: Vec2,
+    pub to: Vec2,
+    pub length: f32,
+}
+
+// What a turn of the walk tells. Cut: a dash ends inside a leg, at the second point. Reach: a corner, the second point, is reached while drawing.
+// Both give the point where the dash began, if the pen was up. Pass: a corner is reached in a gap. Nothing: a gap ends inside a leg.
+pub enum Event {
+    Nothing,
+    Cut(Vec2, Vec2),
+    Reach(Vec2, Vec2),
+    Pass(Vec2),
+}
+
+// How many verbs are laid, and whether the pen is down.
+pub struct Tip {
+    pub at: usize,
+    pub down: bool,
+}
+
+pub struct Walked {
+    pub pos: Pos,
+    pub tip: Tip,
+}
+
+// ---- the phase
+
+// Where in the cycle a walk begins. What remains of the phase falls at each turn, or the loop is left.
+pub fn start_of(cycle: &[f32], phase: f32, period: f32) -> Pos
+    requires { ⌜ 0 < length (now cycle) ⌝ }
+    ensures started { λ r. ⌜ r ≡ startOf (now (cycle .entry)) phase period ⌝ }
+    ensures indexed { λ r. ⌜ r .index < length (now (cycle .entry)) ⌝ }
+{
+    let mut remaining = float::rem_euclid(phase, period);
+    let mut index = 0usize;
+    while remaining >= cycle[index] {
+        let next = remaining - cycle[index];
+        if next >= remaining {
+            break;
+        }
+        remaining = next;
+        index = (index + 1) % cycle.len();
+    }
+    let left = float::max(cycle[index] - remaining, 0.0);
+    Pos {
+        index,
+        left,
+        drawing: index % 2 == 0,
+    }
+}
+
+// ---- one turn
+
+// The next interval's number.
+fn index_after(cycle: &[f32], index: usize) -> usize
+    requires { ⌜ index < length (now cycle) ⌝ }
+    ensures { λ r. ⌜ (r ≡ after (now (cycle .entry)) index) × (r < length (now (cycle .entry))) ⌝ }
+{
+    if index + 1 < cycle.len() {
+        return index + 1;
+    }
+    0
+}
+
+// The next interval, or the one after it where the next is 0.
+fn next_interval(cycle: &[f32], p: Pos) -> Pos
+    requires { ⌜ p .index < length (now cycle) ⌝ }
+    ensures { λ r. ⌜ (r ≡ turned (now (cycle .entry)) p) × (r .index < length (now (cycle .entry))) ⌝ }
+{
+    let i = index_after(cycle, p.index);
+    let left = cycle[i];
+    if left <= 0.0 {
+        let j = index_after(cycle, i);
+        return Pos {
+            index: j,
+            left: cycle[j],
+            drawing: p.drawing,
+        };
+    }
+    Pos {
+        index: i,
+        left,
+        drawing: !p.drawing,
+    }
+}
+
+// The point at the distance t from the leg's start.
+fn point_on(g: Leg, t: f32) -> Vec2
+    ensures { λ r. ⌜ r ≡ pointOn g t ⌝ }
+{
+    let from = g.from;
+    let way = g.way;
+    from.add(way.mul(t / g.length))
+}
+
+// An interval ends inside the leg, at t.
+fn inside(g: Leg, p: Pos, t: f32) -> Event
+    ensures { λ r. ⌜ r ≡ insideOf g p t ⌝ }
+{
+    if p.drawing {
+        let a = point_on(g, t - p.left);
+        let z = point_on(g, t);
+        return Event::Cut(a, z);
+    }
+    Event::Nothing
+}
+
+// The rest of the leg, from t on, lies inside the interval.
+fn resting(g: Leg, p: Pos, t: f32) -> Event
+    ensures { λ r. ⌜ r ≡ restingOf g p t ⌝ }
+{
+    let to = g.to;
+    if p.drawing {
+        let a = point_on(g, t);
+        return Event::Reach(a, to);
+    }
+    Event::Pass(to)
+}
+
+fn rested_at(g: Leg, p: Pos, t: f32) -> Pos
+    ensures { λ r. ⌜ r ≡ rested g p t ⌝ }
+{
+    Pos {
+        index: p.index,
+        left: p.left - (g.length - t),
+        drawing: p.drawing,
+    }
+}
+
+fn leg_of(a: Vec2, b: Vec2) -> Leg
+    ensures { λ r. ⌜ r ≡ legOf a b ⌝ }
+{
+    let way = b.sub(a);
+    let length = way.length();
+    Leg {
+        from: a,
+        way,
+        to: b,
+        length,
+    }
+}
+
+// A leg is walked where its length is finite and above 0.
+fn is_walked(g: Leg) -> bool
+    ensures { λ r. ⌜ r ≡ counts g ⌝ }
+{
+    if float::is_finite(g.length) {
+        return !(g.length <= 0.0);
+    }
+    false
+}
+
+// ---- counting
+
+// A stroke more, which leaves the pen up or down.
+fn add_stroke(k: Tip, down: bool) -> Tip
+    requires { ⌜ k .at < 2 ^ 62 ⌝ }
+    ensures { λ r. ⌜ r ≡ tallyStroke k down ⌝ }
+{
+    if k.down {
+        return Tip { at: k.at + 1, down };
+    }
+    Tip { at: k.at + 2, down }
+}
+
+fn count_cut(k: Tip, drawing: bool) -> Tip
+    requires { ⌜ k .at < 2 ^ 62 ⌝ }
+    ensures { λ r. ⌜ r ≡ tallyCut drawing k ⌝ }
+{
+    if drawing {
+        return add_stroke(k, false);
+    }
+    k
+}
+
+fn count_rest(k: Tip, drawing: bool) -> Tip
+    requires { ⌜ k .at < 2 ^ 62 ⌝ }
+    ensures { λ r. ⌜ r ≡ tallyRest drawing k ⌝ }
+{
+    if drawing {
+        return add_stroke(k, true);
+    }
+    Tip {
+        at: k.at,
+        down: false,
+    }
+}
+
+// Counts what the walk of a leg lays, and stops over the cap.
+fn count_leg(cycle: &[f32], g: Leg, w: Walked, cap: usize) -> Walked
+    requires { ⌜ (w .pos .index < length (now cycle)) × (w .tip .at ≤ cap) × (cap < 2 ^ 61) ⌝ }
+    ensures counted { λ r. ⌜ UpTo laidBy cap (tallied (cutFrom (now (cycle .entry)) g (place (w .pos) f0)) (w .tip)) r ⌝ }
+    ensures indexed { λ r. ⌜ r .pos .index < length (now (cycle .entry)) ⌝ }
+{
+    let mut p = w.pos;
+    let mut k = w.tip;
+    let mut t = 0.0f32;
+    while g.length - t > p.left {
+        let next = t + p.left;
+        if next <= t {
+            break;
+        }
+        k = count_cut(k, p.drawing);
+        if cap < k.at {
+            return Walked { pos: p, tip: k };
+        }
+        p = next_interval(cycle, p);
+        t = next;
+    }
+    let tip = count_rest(k, p.drawing);
+    let pos = rested_at(g, p, t);
+    Walked { pos, tip }
+}
+
+// Counts a leg, or passes over one that is not walked.
+fn pass_count(cycle: &[f32], g: Leg, w: Walked, cap: usize) -> Walked
+    requires { ⌜ (w .pos .index < length (now cycle)) × (w .tip .at ≤ cap) × (cap < 2 ^ 61) ⌝ }
+    ensures counted { λ r. ⌜ UpTo laidBy cap (tallied (passed (counts g) (now (cycle .entry)) g (w .pos)) (w .tip)) r ⌝ }
+    ensures indexed { λ r. ⌜ r .pos .index < length (now (cycle .entry)) ⌝ }
+{
+    if is_walked(g) {
+        return count_leg(cycle, g, w, cap);
+    }
+    w
+}
+
+// How many verbs are laid once a polyline is walked, `at` before it: no more than counted up to the cap.
+pub fn count_polyline(points: &[f32], cycle: &[f32], start: Pos, at: usize, cap: usize) -> usize
+    requires { ⌜ (start .index < length (now cycle)) × (at ≤ cap) × (cap < 2 ^ 61) ⌝ }
+    ensures { λ r. ⌜ UpTo itself cap (at + length (drawn false (walkPolyline (now (cycle .entry)) start (pointsIn (now (points .entry)))))) r ⌝ }
+{
+    if points.len() < 2 {
+        return at;
+    }
+    let mut a = Vec2 {
+        x: points[0],
+        y: points[1],
+    };
+    let mut w = Walked {
+        pos: start,
+        tip: Tip { at, down: false },
+    };
+    let mut i = 2usize;
+    while i + 1 < points.len() {
+        let b = Vec2 {
+            x: points[i],
+            y: points[i + 1],
+        };
+        w = pass_count(cycle, leg_of(a, b), w, cap);
+        if cap < w.tip.at {
+            return w.tip.at;
+        }
+        a = b;
+        i += 2;
+    }
+    w.tip.at
+}
+
+// ---- laying
+
+// Lays one verb with its point.
+fn lay(verbs: &mut [u8], floats: &mut [f32], at: usize, verb: u8, p: Vec2) -> usize
+    requires { ⌜ (at < length (now verbs)) × (2 * at + 1 < length (now floats)) ⌝ }
+    ensures { λ r. ⌜ out (now (verbs .exit)) (now (floats .exit)) r ≡ layVerb (out (now (verbs .entry)) (now (floats .entry)) at) verb p ⌝ }
+{
+    verbs[at] = verb;
+    floats[2 * at] = p.x;
+    floats[2 * at + 1] = p.y;
+    at + 1
+}
+
+// Lays a line to z, behind a move to a where the pen is up.
+fn lay_stroke(verbs: &mut [u8], floats: &mut [f32], tip: Tip, a: Vec2, z: Vec2) -> usize
+    requires { ⌜ Room (length (now verbs)) (length (now floats)) (stroke (tip .down) (out (now verbs) (now floats) (tip .at)) a z) ⌝ }
+    ensures { λ r. ⌜ out (now (verbs .exit)) (now (floats .exit)) r ≡ stroke (tip .down) (out (now (verbs .entry)) (now (floats .entry)) (tip .at)) a z ⌝ }
+{
+    if tip.down {
+        return lay(verbs, floats, tip.at, 1, z);
+    }
+    let next = lay(verbs, floats, tip.at, 0, a);
+    lay(verbs, floats, next, 1, z)
+}
+
+// Lays what an event draws.
+fn put(verbs: &mut [u8], floats: &mut [f32], tip: Tip, e: Event) -> Tip
+    requires { ⌜ Room (length (now verbs)) (length (now floats)) (layEvent (sheet (now verbs) (now floats) tip) e .page) ⌝ }
+    ensures { λ r. ⌜ sheet (now (verbs .exit)) (now (floats .exit)) r ≡ layEvent (sheet (now (verbs .entry)) (now (floats .entry)) tip) e ⌝ }
+{
+    match e {
+        Event::Nothing => tip,
+        Event::Cut(a, z) => {
+            let at = lay_stroke(verbs, floats, tip, a, z);
+            Tip { at, down: false }
+        }
+        Event::Reach(a, c) => {
+            let at = lay_stroke(verbs, floats, tip, a, c);
+            Tip { at, down: true }
+        }
+        Event::Pass(_) => Tip {
+            at: tip.at,
+            down: false,
+        },
+    }
+}
+
+// Walks a leg, and lays what is drawn.
+fn lay_leg(cycle: &[f32], g: Leg, w: Walked, verbs: &mut [u8], floats: &mut [f32]) -> Walked
+    requires { ⌜ (w .pos .index < length (now cycle))
+        × Room (length (now verbs)) (length (now floats)) (layAll (sheet (now verbs) (now floats) (w .tip)) (cutFrom (now cycle) g (place (w .pos) f0) .events) .page) ⌝ }
+    ensures walked { λ r. ⌜ r .pos ≡ cutFrom (now (cycle .entry)) g (place (w .pos) f0) .pos ⌝ }
+    ensures laid { λ r. ⌜ sheet (now (verbs .exit)) (now (floats .exit)) (r .tip)
+        ≡ layAll (sheet (now (verbs .entry)) (now (floats .entry)) (w .tip)) (cutFrom (now (cycle .entry)) g (place (w .pos) f0) .events) ⌝ }
+    ensures indexed { λ r. ⌜ r .pos .index < length (now (cycle .entry)) ⌝ }
+{
+    let mut p = w.pos;
+    let mut k = w.tip;
+    let mut t = 0.0f32;
+    while g.length - t > p.left {
+        let next = t + p.left;
+        if next <= t {
+            break;
+        }
+        let e = inside(g, p, next);
+        k = put(verbs, floats, k, e);
+        p = next_interval(cycle, p);
+        t = next;
+    }
+    let e = resting(g, p, t);
+    let tip = put(verbs, floats, k, e);
+    let pos = rested_at(g, p, t);
+    Walked { pos, tip }
+}
+
+// Walks a leg, or passes over one that is not walked: the pen stays as it is.
+fn pass_leg(cycle: &[f32], g: Leg, w: Walked, verbs: &mut [u8], floats: &mut [f32]) -> Walked
+    requires { ⌜ (w .pos .index < length (now cycle))
+        × Room (length (now verbs)) (length (now floats)) (layAll (sheet (now verbs) (now floats) (w .tip)) (passed (counts g) (now cycle) g (w .pos) .events) .page) ⌝ }
+    ensures walked { λ r. ⌜ r .pos ≡ passed (counts g) (now (cycle .entry)) g (w .pos) .pos ⌝ }
+    ensures laid { λ r. ⌜ sheet (now (verbs .exit)) (now (floats .exit)) (r .tip)
+        ≡ layAll (sheet (now (verbs .entry)) (now (floats .entry)) (w .tip)) (passed (counts g) (now (cycle .entry)) g (w .pos) .events) ⌝ }
+    ensures indexed { λ r. ⌜ r .pos .index < length (now (cycle .entry)) ⌝ }
+{
+    if is_walked(g) {
+        return lay_leg(cycle, g, w, verbs, floats);
+    }
+    w
+}
+
+// Walks a polyline with the pen up at first, and lays what is drawn behind the first `at` verbs. Answers how many then are laid.
+pub fn lay_polyline(
+    points: &[f32],
+    cycle: &[f32],
+    start: Pos,
+    verbs: &mut [u8],
+    floats: &mut [f32],
+    at: usize,
+) -> usize
+    requires { ⌜ (start .index < length (now cycle))
+        × Room (length (now verbs)) (length (now floats)) (laid (out (now verbs) (now floats) at) (drawn false (walkPolyline (now cycle) start (pointsIn (now points))))) ⌝ }
+    ensures { λ r. ⌜ out (now (verbs .exit)) (now (floats .exit)) r
+        ≡ laid (out (now (verbs .entry)) (now (floats .entry)) at) (drawn false (walkPolyline (now (cycle .entry)) start (pointsIn (now (points .entry))))) ⌝ }
+{
+    if points.len() < 2 {
+        return at;
+    }
+    let mut a = Vec2 {
+        x: points[0],
+        y: points[1],
+    };
+    let mut w = Walked {
+        pos: start,
+        tip: Tip { at, down: false },
+    };
+    let mut i = 2usize;
+    while i + 1 < points.len() {
+        let b = Vec2 {
+            x: points[i],
+            y: points[i + 1],
+        };
+        w = pass_leg(cycle, leg_of(a, b), w, verbs, floats);
+        a = b;
+        i += 2;
+    }
+    w.tip.at
+}
