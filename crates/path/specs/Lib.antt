@@ -1,3 +1,4 @@
 pub mod Segment
 pub mod Check
 pub mod Cursor
+pub mod Rect

@@ -1,7 +1,7 @@
 -- Lists of points in a float buffer: their lengths, one behind another, and what stands at a place. Assumes nothing.
 use mathlib.Core.Path.{_≡_, refl, sym, ap, _∙_}
 use mathlib.Core.List.{List, [], _∷_, _++_}
-use Prim.Native.Nat.{ℕ, zero, suc, _+_, _*_}
+use Prim.Native.Nat.{ℕ, zero, suc, _+_, _*_, _/_, _<_}
 use native.Mathlib.Nat.{add-zero, add-suc, suc-add}
 use native.Mathlib.Numerals.{add-one}
 use native.Mathlib.Omega.{arith}
@@ -31,6 +31,19 @@ pub pointAt-flat : (ps : List Vec2) (k : ℕ) → pointAt (flat ps) k ≡ getD p
 pointAt-flat [] k = refl
 pointAt-flat (p ∷ ps) zero = refl
 pointAt-flat (p ∷ ps) (suc k) = rw (double-suc k, suc-add, suc-add) (pointAt-flat ps k)
+
+-- ---- the points of a buffer, by index
+
+pub length-pointsIn : (fs : List Float) → length (pointsIn fs) ≡ length fs / 2
+length-pointsIn [] = refl
+length-pointsIn (a ∷ []) = refl
+length-pointsIn (a ∷ b ∷ fs) = ap suc (length-pointsIn fs) ∙ omega arith
+
+pub pointsIn-at : (fs : List Float) (k : ℕ) → 2 * k + 1 < length fs → getD (pointsIn fs) k (vec nan nan) ≡ pointAt fs k
+pointsIn-at [] k h = absurd (omega arith)
+pointsIn-at (a ∷ []) k h = absurd (omega arith)
+pointsIn-at (a ∷ b ∷ fs) zero h = refl
+pointsIn-at (a ∷ b ∷ fs) (suc k) h = rw (double-suc k, suc-add, suc-add) (pointsIn-at fs k (omega arith))
 
 -- ---- stored in a buffer
 

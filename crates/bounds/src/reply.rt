@@ -1,0 +1,12 @@
+// What the calls answer. `refused` is the number of a refusal, 0 for none.
+use path::Rect;
+
+pub struct Bounds {
+    pub rect: Rect,
+    pub refused: u8,
+}
+
+pub struct Answer {
+    pub holds: bool,
+    pub refused: u8,
+}
