@@ -1,16 +1,16 @@
 -- The tests of a path that is handed in, verb by verb. Assumes nothing.
 use mathlib.Core.Path.{_≡_, refl}
-use mathlib.Core.Bool.{true, false, not}
+use mathlib.Core.Bool.{Bool, true, false, not, _||_, cond}
 use mathlib.Core.List.{List, [], _∷_}
 use Prim.Native.Nat.{ℕ, _+_, _/_, _%_, _≤_, _<_}
 use native.Mathlib.Numerals.{add-one}
 use native.Mathlib.Omega.{arith}
-use borrow.Author.Tests.{lt-ltb, le-ltb, eq-eqb, ne-eqb}
-use lib.Dec.{eqb}
+use borrow.Author.Tests.{lt-ltb, le-ltb, ltb-false, eq-eqb, ne-eqb}
+use lib.Dec.{ltb, eqb}
 use lib.ListN.{length, getD, drop, drop-of-length-le}
 use lib.Seq.{drop-cons}
 use lib.Ieee.{Float}
-use Rattle.path.specs.Check.{anyOver4, badFirst, badPath, usedBy}
+use Rattle.path.specs.Check.{maxVerbs, maxPoints, anyOver4, badFirst, badPath, badList, usedBy}
 
 module _ (vs : List ℕ) (i : ℕ) (h : i < length vs) where
   pub over-found : 4 < getD vs i 0 → true ≡ anyOver4 (drop i vs)
@@ -65,3 +65,24 @@ module _ (vs : List ℕ) (fs : List Float) where
             pub taken : usedBy vs ≡ length fs / 2 → 0 ≡ badPath vs fs
             unfolding badPath
             taken h = rw (ne-eqb (length fs % 2) 1 h1, le-ltb 65536 (length vs) h2, le-ltb 131072 (length fs / 2) h3, h4, h5, eq-eqb (usedBy vs) (length fs / 2) h)
+
+-- ---- what a call that is not refused may count on
+
+pub list-room : (fs : List Float) → badList fs ≡ 0 → length fs / 2 ≤ 131072
+unfolding badList
+list-room fs h = go (eqb (length fs % 2) 1) (ltb maxPoints (length fs / 2)) refl h
+  where
+    go : (odd over : Bool) → ltb maxPoints (length fs / 2) ≡ over → _≡_ {A = ℕ} (cond odd 1 (cond over 4 0)) 0 → length fs / 2 ≤ 131072
+    go true over e h = absurd (omega arith)
+    go false true e h = absurd (omega arith)
+    go false false e h = ltb-false _ _ e
+
+pub path-room : (vs : List ℕ) (fs : List Float) → badPath vs fs ≡ 0 → length fs / 2 ≤ 131072
+unfolding badPath
+path-room vs fs h = go (eqb (length fs % 2) 1) (ltb maxVerbs (length vs)) (ltb maxPoints (length fs / 2)) _ refl h
+  where
+    go : (odd over many : Bool) (rest : ℕ) → ltb maxPoints (length fs / 2) ≡ many → cond odd 1 (cond (over || many) 4 rest) ≡ 0 → length fs / 2 ≤ 131072
+    go true over many rest e h = absurd (omega arith)
+    go false true many rest e h = absurd (omega arith)
+    go false false true rest e h = absurd (omega arith)
+    go false false false rest e h = ltb-false _ _ e

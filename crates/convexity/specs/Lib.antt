@@ -1,0 +1,4 @@
+pub mod Turn
+pub mod Walk
+pub mod Plane
+pub mod Answer
