@@ -1,3 +1,5 @@
 pub mod Laws
 pub mod Pieces
 pub mod Examples
+pub mod Rounded
+pub mod Clear

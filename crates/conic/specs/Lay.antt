@@ -1,11 +1,11 @@
 -- A conic's halves as arrays of three points, and quads laid in the buffers. Definitions only.
 use mathlib.Core.Path.{_≡_}
 use Prim.Native.Nat.{ℕ, zero, suc}
-use mathlib.Core.Bool.{Bool, true}
+use mathlib.Core.Bool.{Bool, true, _&&_}
 use mathlib.Core.List.{List, [], _∷_}
 use lib.ListN.{getD, length}
 use lib.Seq.{sets}
-use lib.Ieee.{Float, nan}
+use lib.Ieee.{Float, nan, binary32, ofBits, le}
 use Rattle.vec2.specs.declared.Vec2.{Vec2}
 use Rattle.vec2.specs.Vec2.{vec}
 use Rattle.vec2.specs.Points.{flat}
@@ -43,3 +43,22 @@ pub record Bent (qs : List Segment) (r : ℕ) (vs : List ℕ) (v : ℕ) (vs' : L
   pub number : r ≡ length qs
   pub verbs : vs' ≡ sets vs v (bytesOf qs)
   pub floats : fs' ≡ sets fs f (flat (allPoints qs))
+
+-- ---- the midpoints' test by squares
+
+-- 1e-30 and 1e30
+abbrev pub lowest : Float
+lowest = ofBits binary32 0x0da2_4260
+
+abbrev pub highest : Float
+highest = ofBits binary32 0x7149_f2ca
+
+abbrev pub moderate : Float → Bool
+moderate x = le lowest x && le x highest
+
+-- 0.995 and 1.005 millionths
+abbrev pub littleLess : Float
+littleLess = ofBits binary32 0x3585_8bf1
+
+abbrev pub littleMore : Float
+littleMore = ofBits binary32 0x3586_e389

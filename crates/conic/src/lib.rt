@@ -6,7 +6,7 @@ ghost use lib.ListN.{length};
 ghost use lib.Ieee.{binary32};
 ghost use Rattle.float.specs.Root.{squareRoot};
 ghost use Rattle.conic.specs.Conic.{straight, square, gap, within, near, leftOf, rightOf, middle, halfWeight, quads};
-ghost use Rattle.conic.specs.Lay.{pointOf, halfOf, leftHalf, rightHalf, single, pieces, Bent};
+ghost use Rattle.conic.specs.Lay.{pointOf, halfOf, leftHalf, rightHalf, moderate, single, pieces, Bent};
 ghost use Rattle.path.specs.declared.Segment.the-variants.{Quad};
 use vec2::Vec2;
 
@@ -131,7 +131,7 @@ fn mid_gap(from: Vec2, ctrl: Vec2, to: Vec2, weight: f32) -> Vec2
 }
 
 // Whether the root of gap is within 0.001 of the root of chord, and that is above 0.
-fn is_within(chord: f32, gap: f32) -> bool
+fn is_within_by_roots(chord: f32, gap: f32) -> bool
     ensures { λ r. ⌜ r ≡ within (squareRoot binary32 chord) (squareRoot binary32 gap) ⌝ }
 {
     let length = float::sqrt(chord);
@@ -139,6 +139,29 @@ fn is_within(chord: f32, gap: f32) -> bool
         return float::sqrt(gap) <= 0.001 * length;
     }
     false
+}
+
+fn is_moderate(x: f32) -> bool
+    ensures { λ r. ⌜ r ≡ moderate x ⌝ }
+{
+    1e-30 <= x && x <= 1e30
+}
+
+// The same, with no root taken where the squares are clearly apart: three roots a split would take most of the time.
+fn is_within(chord: f32, gap: f32) -> bool
+    ensures { λ r. ⌜ r ≡ within (squareRoot binary32 chord) (squareRoot binary32 gap) ⌝ }
+{
+    if is_moderate(chord) {
+        if is_moderate(gap) {
+            if gap <= 0.000000995 * chord {
+                return true;
+            }
+            if 0.000001005 * chord <= gap {
+                return false;
+            }
+        }
+    }
+    is_within_by_roots(chord, gap)
 }
 
 // Whether the quad of the same points is near enough.
