@@ -1,0 +1,192 @@
+-- A list laid behind what stands, by code that stores segment by segment, and the state behind it.
+--     begun-nil, begun-more     nothing laid; one list laid behind another
+--     opened                    the state behind what a drawn call lays
+--     replied, drawn-done       the whole outcome of a call; of a drawn one
+-- Assumes nothing.
+use mathlib.Core.Path.{_≡_, refl, sym, ap, subst, _∙_}
+use mathlib.Core.Bool.{Bool, true, false}
+use mathlib.Core.List.{List, [], _∷_, _++_}
+use Prim.Native.Nat.{ℕ, zero, suc, _+_, _*_, _≤_}
+use native.Mathlib.Nat.{zero-add, add-assoc}
+use native.Mathlib.Omega.{arith}
+use lib.ListN.{length, length-append}
+use lib.Seq.{sets}
+use lib.Ieee.{Float}
+use Rattle.vec2.specs.declared.Vec2.{Vec2}
+use Rattle.vec2.specs.Vec2.{origin}
+use Rattle.vec2.specs.Points.{flat}
+use Rattle.vec2.proofs.Points.{flat-append, length-flat, sets-append}
+use Rattle.path.specs.declared.Segment.{Segment}
+use Rattle.path.specs.declared.Segment.the-variants.{Move, Line, Quad, Cubic}
+use Rattle.path.specs.Segment.{bytesOf, allPoints}
+use Rattle.path.proofs.Encoded.{bytesOf-append, allPoints-append, length-bytes}
+use Rattle.conic.specs.Conic.{straight, quads}
+use Rattle.conic.specs.Lay.{Bent}
+use Rattle.conic.proofs.Laws.{Quads, one, more, quads-quads, quads-points}
+use Rattle.builder.specs.declared.Call.{Call}
+use Rattle.builder.specs.declared.Call.the-variants.{LineTo, ConicTo}
+use Rattle.builder.specs.declared.PathBuilder.{PathBuilder}
+use Rattle.builder.specs.declared.Reply.{Reply}
+use Rattle.builder.specs.Call.{opening, lead, from, lays}
+use Rattle.builder.specs.Build.{startOf, moved, step, steps, refusal, unless, Outcome, outcome, pushedBy, pushed, quadsLaid, called, penOf}
+use Rattle.builder.proofs.Laws.{unless-not, refusal-as}
+use Rattle.builder.specs.Room.{Begun, drawnBy, repliedBy}
+
+-- ---- the buffers
+
+pub begun-nil : (n : ℕ) (b : PathBuilder) (vs : List ℕ) (fs : List Float) → Begun n b vs fs [] vs fs
+begun-nil zero b vs fs = record { bytes = refl; floats = refl }
+begun-nil (suc n) b vs fs = record { bytes = refl; floats = refl }
+
+pub begun-as : {n : ℕ} {b : PathBuilder} {vs vs' : List ℕ} {fs fs' : List Float} {ss ts : List Segment} → ss ≡ ts → Begun n b vs fs ss vs' fs' → Begun n b vs fs ts vs' fs'
+begun-as {n} {b} {vs} {vs'} {fs} {fs'} e g = subst (λ (l : List Segment). Begun n b vs fs l vs' fs') e g
+
+-- l verbs and l points stand, and ts goes behind them
+pub begun-more : (n : ℕ) (b : PathBuilder) (vs : List ℕ) (fs : List Float) (ss ts : List Segment) (l : ℕ) {vs' vs'' : List ℕ} {fs' fs'' : List Float} →
+    l ≡ length ss → l ≡ length (allPoints ss) → Begun n b vs fs ss vs' fs' →
+    vs'' ≡ unless n vs' (sets vs' (b .verbs + l) (bytesOf ts)) → fs'' ≡ unless n fs' (sets fs' (2 * (b .points + l)) (flat (allPoints ts))) →
+    Begun n b vs fs (ss ++ ts) vs'' fs''
+begun-more zero b vs fs ss ts l hv hk g ev ef =
+    let i : b .verbs + l ≡ b .verbs + length (bytesOf ss) = omega (arith, hv, length-bytes ss) in
+    let j : 2 * (b .points + l) ≡ 2 * b .points + length (flat (allPoints ss)) = omega (arith, hk, length-flat (allPoints ss)) in
+    record {
+      bytes = ev ∙ rw (g .bytes, i, bytesOf-append ss ts, sets-append (bytesOf ss) (bytesOf ts) vs (b .verbs));
+      floats = ef ∙ rw (g .floats, j, allPoints-append ss ts, flat-append (allPoints ss) (allPoints ts), sets-append (flat (allPoints ss)) (flat (allPoints ts)) fs (2 * b .points));
+    }
+begun-more (suc n) b vs fs ss ts l hv hk g ev ef = record { bytes = ev ∙ g .bytes; floats = ef ∙ g .floats }
+
+pub begun-one : (n : ℕ) (b : PathBuilder) (vs : List ℕ) (fs : List Float) (ts : List Segment) {vs' : List ℕ} {fs' : List Float} →
+    vs' ≡ unless n vs (sets vs (b .verbs + 0) (bytesOf ts)) → fs' ≡ unless n fs (sets fs (2 * (b .points + 0)) (flat (allPoints ts))) → Begun n b vs fs ts vs' fs'
+begun-one n b vs fs ts ev ef = begun-more n b vs fs [] ts 0 refl refl (begun-nil n b vs fs) ev ef
+
+-- ---- the state
+
+moved-twice : (b : PathBuilder) (v k v' k' : ℕ) (a p a' p' : Vec2) → moved (moved b v k a p) v' k' a' p' ≡ moved b (v + v') (k + k') a' p'
+moved-twice b v k v' k' a p a' p' = rw (add-assoc (b .verbs) v v', add-assoc (b .points) k k')
+
+moved-as : (b : PathBuilder) {v k v' k' : ℕ} {a p : Vec2} → v ≡ v' → k ≡ k' → moved b v k a p ≡ moved b v' k' a p
+moved-as b e d = rw (e, d)
+
+-- segments that leave the latest move's point, with v verbs and k points, and end at p
+abbrev pub Draws : List Segment → ℕ → ℕ → Vec2 → Type 0
+Draws ts v k p = (c : PathBuilder) → steps c ts ≡ moved c v k (startOf c) p
+
+opened : (t : Bool) (b : PathBuilder) (ts : List Segment) (v k : ℕ) (p : Vec2) → Draws ts v k p →
+    steps b (opening t ++ ts) ≡ moved b (lead t + v) (lead t + k) (from t (startOf b)) p
+unfolding steps
+opened true b ts v k p d = rw (zero-add v, zero-add k) (d b)
+opened false b ts v k p d = d (step b (Move origin)) ∙ moved-twice b 1 1 v k origin origin origin p
+
+pub lead-few : (t : Bool) → lead t ≤ 1
+lead-few true = omega arith
+lead-few false = omega arith
+
+pub draws-line : (p : Vec2) → Draws (Line p ∷ []) 1 1 p
+unfolding steps
+draws-line p c = refl
+
+pub draws-quad : (a p : Vec2) → Draws (Quad a p ∷ []) 1 2 p
+unfolding steps
+draws-quad a p c = refl
+
+pub draws-cubic : (a b p : Vec2) → Draws (Cubic a b p ∷ []) 1 3 p
+unfolding steps
+draws-cubic a b p c = refl
+
+draws-quads : (t : Vec2) (qs : List Segment) → Quads t qs → Draws qs (length qs) (2 * length qs) t
+unfolding steps
+draws-quads t qs (one a) c = refl
+draws-quads t qs (more a p rs h) c =
+    draws-quads t rs h (step c (Quad a p)) ∙ moved-twice c 1 2 (length rs) (2 * length rs) (startOf c) p (startOf c) t
+    ∙ moved-as c (omega arith) (omega arith)
+
+pub drawn-as : (n : ℕ) (b : PathBuilder) (v k : ℕ) (p : Vec2) {l : ℕ} {a : Vec2} → l ≡ lead (b .started) → a ≡ from (b .started) (startOf b) →
+    unless n b (moved b (l + v) (l + k) a p) ≡ unless n b (drawnBy b v k p)
+drawn-as n b v k p e d = rw (e, d)
+
+lead-length : (t : Bool) → lead t ≡ length (opening t)
+lead-length true = refl
+lead-length false = refl
+
+lead-points : (t : Bool) → lead t ≡ length (allPoints (opening t))
+lead-points true = refl
+lead-points false = refl
+
+-- ---- the outcome
+
+pub reply-as : (n q : ℕ) (b s : PathBuilder) {t : PathBuilder} → t ≡ unless n b s → record { state = t; quads = q; refused = n } ≡ repliedBy n q b s
+reply-as n q b s e = ap (λ (s : PathBuilder). record { state = s; quads = q; refused = n }) e
+
+module _ (q : ℕ) (b : PathBuilder) (vs : List ℕ) (fs : List Float) (ss : List Segment) where
+  pub replied : (n : ℕ) {r : Reply} {q' : ℕ} {vs' : List ℕ} {fs' : List Float} →
+      n ≡ refusal b (length vs) (length fs) (length ss) (length (allPoints ss)) → r ≡ repliedBy n q' b (steps b ss) → q' ≡ unless n 0 q →
+      Begun n b vs fs ss vs' fs' → outcome r vs' fs' ≡ pushed q b vs fs ss
+  unfolding pushed
+  replied n e er eq g =
+      let h : outcome (repliedBy n (unless n 0 q) b (steps b ss)) (unless n vs (sets vs (b .verbs) (bytesOf ss))) (unless n fs (sets fs (2 * b .points) (flat (allPoints ss)))) ≡ pushedBy n q b vs fs ss = refl in
+      rw (er, eq, g .bytes, g .floats) h ∙ ap (λ (k : ℕ). pushedBy k q b vs fs ss) e
+
+  -- a refused call leaves everything as it was
+  pub unchanged : (n : ℕ) → (n ≡ 0 → ⊥) → n ≡ refusal b (length vs) (length fs) (length ss) (length (allPoints ss)) →
+      outcome (record { state = b; quads = 0; refused = n }) vs fs ≡ pushed q b vs fs ss
+  unchanged n h e =
+      replied n e (reply-as n 0 b (steps b ss) (unless-not n b (steps b ss) h)) (unless-not n 0 q h) (record { bytes = unless-not n vs _ h; floats = unless-not n fs _ h })
+
+-- the same list by another name
+pub pushed-as : (q : ℕ) (b : PathBuilder) (vs : List ℕ) (fs : List Float) {o : Outcome} {ss ts : List Segment} → ss ≡ ts → o ≡ pushed q b vs fs ss → o ≡ pushed q b vs fs ts
+pushed-as q b vs fs e h = h ∙ ap (λ (l : List Segment). pushed q b vs fs l) e
+
+module _ (q : ℕ) (b : PathBuilder) (vs : List ℕ) (fs : List Float) (ts : List Segment) where
+  count-all : length (opening (b .started) ++ ts) ≡ lead (b .started) + length ts
+  count-all = omega (arith, length-append (opening (b .started)) ts, lead-length (b .started))
+
+  points-all : length (allPoints (opening (b .started) ++ ts)) ≡ lead (b .started) + length (allPoints ts)
+  points-all = rw (allPoints-append (opening (b .started)) ts) (omega (arith, length-append (allPoints (opening (b .started))) (allPoints ts), lead-points (b .started)))
+
+  pub drawn-done : (n : ℕ) (v k l : ℕ) (p : Vec2) {r : Reply} {q' : ℕ} {vs' vs'' : List ℕ} {fs' fs'' : List Float} →
+      v ≡ length ts → k ≡ length (allPoints ts) → Draws ts v k p → l ≡ lead (b .started) →
+      n ≡ refusal b (length vs) (length fs) (lead (b .started) + v) (lead (b .started) + k) → Begun n b vs fs (opening (b .started)) vs' fs' →
+      vs'' ≡ unless n vs' (sets vs' (b .verbs + l) (bytesOf ts)) → fs'' ≡ unless n fs' (sets fs' (2 * (b .points + l)) (flat (allPoints ts))) →
+      r ≡ repliedBy n q' b (drawnBy b v k p) → q' ≡ unless n 0 q →
+      outcome r vs'' fs'' ≡ pushed q b vs fs (opening (b .started) ++ ts)
+  drawn-done n v k l p {r} {q'} hv hk d hl e g ev ef er eq =
+      replied q b vs fs (opening (b .started) ++ ts) n
+      (e ∙ rw (hv, hk, count-all, points-all))
+      (er ∙ ap (λ (s : PathBuilder). repliedBy n q' b s) (sym (opened (b .started) b ts v k p d)))
+      eq
+      (begun-more n b vs fs (opening (b .started)) ts l (hl ∙ lead-length (b .started)) (hl ∙ lead-points (b .started)) g ev ef)
+
+-- ---- conics
+
+module _ (b : PathBuilder) (vs : List ℕ) (fs : List Float) (a c t : Vec2) (w : Float) (n : ℕ)
+    (asked : n ≡ refusal b (length vs) (length fs) (lead (b .started) + length (quads a c t w)) (lead (b .started) + 2 * length (quads a c t w))) where
+  pub bend-refused : {a' : Vec2} → a ≡ a' → (n ≡ 0 → ⊥) → outcome (record { state = b; quads = 0; refused = n }) vs fs ≡ pushed (length (quads a' c t w)) b vs fs (opening (b .started) ++ quads a' c t w)
+  bend-refused e h =
+      rw (← e)
+      (unchanged (length (quads a c t w)) b vs fs (opening (b .started) ++ quads a c t w) n h
+      (asked ∙ refusal-as b (length vs) (length fs) (sym (count-all 0 b vs fs (quads a c t w))) (omega (arith, points-all 0 b vs fs (quads a c t w), quads-points a c t w))))
+
+  pub bend-done : {a' : Vec2} (l q : ℕ) {r : Reply} {vs' vs'' : List ℕ} {fs' fs'' : List Float} → a ≡ a' → n ≡ 0 → l ≡ lead (b .started) →
+      Begun 0 b vs fs (opening (b .started)) vs' fs' → Bent (quads a c t w) q vs' (b .verbs + l) vs'' fs' (2 * (b .points + l)) fs'' →
+      r ≡ repliedBy 0 q b (drawnBy b q (2 * q) t) →
+      outcome r vs'' fs'' ≡ pushed (length (quads a' c t w)) b vs fs (opening (b .started) ++ quads a' c t w)
+  bend-done l q e z hl g p er =
+      rw (← e)
+      (drawn-done (length (quads a c t w)) b vs fs (quads a c t w) 0 (length (quads a c t w)) (2 * length (quads a c t w)) l t
+      refl (sym (quads-points a c t w)) (draws-quads t (quads a c t w) (quads-quads a c t w)) hl (sym z ∙ asked) g (p .verbs) (p .floats)
+      (er ∙ ap (λ (m : ℕ). repliedBy 0 m b (drawnBy b m (2 * m) t)) (p .number)) refl)
+
+module _ (b : PathBuilder) (vs : List ℕ) (fs : List Float) (c t : Vec2) (w : Float) where
+  pub conic-line : straight c t w ≡ true → called b vs fs (LineTo t) ≡ called b vs fs (ConicTo c t w)
+  unfolding called lays quadsLaid
+  conic-line e = rw e
+
+  pub conic-bend : straight c t w ≡ false →
+      pushed (length (quads (from (b .started) (penOf b)) c t w)) b vs fs (opening (b .started) ++ quads (from (b .started) (penOf b)) c t w) ≡ called b vs fs (ConicTo c t w)
+  unfolding called lays quadsLaid
+  conic-bend e = rw e
+
+-- ---- any call
+
+pub as-called : (b : PathBuilder) (vs : List ℕ) (fs : List Float) {o : Outcome} {c d : Call} → c ≡ d → o ≡ called b vs fs d → o ≡ called b vs fs c
+as-called b vs fs e h = h ∙ ap (λ (c : Call). called b vs fs c) (sym e)

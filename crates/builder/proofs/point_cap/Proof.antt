@@ -1,0 +1,16 @@
+-- `builder::point_cap` meets its contract. Assumes nothing.
+use Rattle.builder.specs.Build.{pointCap}
+use borrow.Author.Needs.{needs}
+use Rattle.builder.proofs.point_cap.Statement.{statement}
+use Rattle.builder.proofs.point_cap.Tie as tie
+
+returns : tie.Need-returns
+unfolding pointCap
+returns c = search needs
+
+returns-2 : tie.Need-returns-2
+unfolding pointCap
+returns-2 c = search needs
+
+pub point-cap-spec : {M : Type 1} → statement M
+point-cap-spec = tie.close (tie.spec returns returns-2)

@@ -1,0 +1,65 @@
+-- `builder::put_one` meets its contract. Assumes nothing.
+use native.Mathlib.Numerals.{add-one}
+use lib.ListN.{length-set}
+use Rattle.builder.proofs.Laws.{unless-is, unless-not}
+use native.Mathlib.Omega.{arith}
+use borrow.Author.Needs.{needs}
+use Rattle.builder.proofs.put_one.Statement.{statement}
+use Rattle.builder.proofs.put_one.Tie as tie
+
+returns : tie.Need-returns
+returns c = (unless-not _ _ _ (c .if1 .taken), unless-not _ _ _ (c .if1 .taken))
+
+add-f : tie.Need-add-f
+add-f c = let r = c .before .pre (c .if1 .left) in omega (arith, r .0, r .1)
+
+mul-f : tie.Need-mul-f
+mul-f c = let r = c .before .pre (c .if1 .left) in omega (arith, r .0, r .1)
+
+add-verbs : tie.Need-add-verbs
+add-verbs c = let r = c .before .pre (c .if1 .left) in omega (arith, r .0, r .1)
+
+slice-write-verbs : tie.Need-slice-write-verbs
+slice-write-verbs c = let r = c .before .pre (c .if1 .left) in omega (arith, r .0, r .1)
+
+mul-points : tie.Need-mul-points
+mul-points c = let r = c .before .pre (c .if1 .left) in omega (arith, r .0, r .1)
+
+slice-write-points : tie.Need-slice-write-points
+slice-write-points c = let r = c .before .pre (c .if1 .left) in omega (arith, r .0, r .1)
+
+add-points : tie.Need-add-points
+add-points c = let r = c .before .pre (c .if1 .left) in omega (arith, r .0, r .1)
+
+mul-points-2 : tie.Need-mul-points-2
+mul-points-2 c = let r = c .before .pre (c .if1 .left) in omega (arith, r .0, r .1)
+
+slice-write-points-2 : tie.Need-slice-write-points-2
+slice-write-points-2 c = let r = c .before .pre (c .if1 .left) in simp length-set (omega (arith, r .0, r .1))
+
+same-length : tie.Need-same-length
+same-length c = search needs
+
+same-length-2 : tie.Need-same-length-2
+same-length-2 c = search needs
+
+returns-2 : tie.Need-returns-2
+returns-2 c = (unless-is _ _ _ (c .if1 .left), rw (add-one) (unless-is _ _ _ (c .if1 .left)))
+
+pub put-one-spec : {M : Type 1} → statement M
+put-one-spec =
+    tie.close
+    (tie.spec
+    returns
+    add-f
+    mul-f
+    add-verbs
+    slice-write-verbs
+    mul-points
+    slice-write-points
+    add-points
+    mul-points-2
+    slice-write-points-2
+    same-length
+    same-length-2
+    returns-2)
