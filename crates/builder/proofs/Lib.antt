@@ -1,2 +1,6 @@
 pub mod Laws
 pub mod Lays
+pub mod Kept
+pub mod Sound
+pub mod Conics
+pub mod Examples
