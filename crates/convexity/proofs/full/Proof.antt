@@ -4,10 +4,10 @@ use Rattle.convexity.proofs.full.Statement.{statement}
 use Rattle.convexity.proofs.full.Tie as tie
 
 returns : tie.Need-returns
-returns c = simp (lt-ltb _ _ (c .if1 .taken))
+returns c = rw (lt-ltb 4 _ (c .if1 .taken))
 
 returns-2 : tie.Need-returns-2
-returns-2 c = simp (le-ltb _ _ (c .if1 .left))
+returns-2 c = rw (le-ltb 4 _ (c .if1 .left))
 
 pub full-spec : {M : Type 1} → statement M
 full-spec = tie.close (tie.spec returns returns-2)
