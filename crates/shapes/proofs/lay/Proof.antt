@@ -6,9 +6,6 @@ use native.Mathlib.Omega.{arith}
 use lib.ListN.{length}
 use Rattle.shapes.proofs.lay.Statement.{statement}
 use Rattle.shapes.proofs.lay.Tie as tie
-use Rattle.shapes.proofs.lay.Reads as reads
-use Rattle.shapes.proofs.lay.Lts as lts
-use Rattle.shapes.proofs.set.Reads as set-reads
 
 abbrev Inv-loop : tie.InvT-loop
 Inv-loop out₀ quarter x y dx dy px₀ py₀ i₀ out px py i = (i ≤ 32768) × (quarter ≤ 255) × (length out₀ ≡ length out)
@@ -16,55 +13,42 @@ Inv-loop out₀ quarter x y dx dy px₀ py₀ i₀ out px py i = (i ≤ 32768) �
 abbrev μ-loop : tie.MeasureT-loop
 μ-loop out₀ quarter x y dx dy px₀ py₀ i₀ out px py i = 32768 - i
 
--- src/main.rt:114:5
 loop-holds : tie.Need-loop-holds Inv-loop μ-loop
 loop-holds c = (omega arith, omega arith, refl)
 
--- src/main.rt:115:18
 mul-at : tie.Need-mul-at Inv-loop μ-loop
 mul-at c = search needs
 
--- src/main.rt:115:45
 cast-at : tie.Need-cast-at Inv-loop μ-loop
 cast-at c = search needs
 
--- src/main.rt:115:45
 mul-at-2 : tie.Need-mul-at-2 Inv-loop μ-loop
 mul-at-2 c = search needs
 
--- src/main.rt:115:18
 add-at : tie.Need-add-at Inv-loop μ-loop
 add-at c = search needs
 
--- src/main.rt:116:9
 set-requires : tie.Need-set-requires Inv-loop μ-loop
 set-requires c κs = search needs
 
--- src/main.rt:117:18
 add-set : tie.Need-add-set Inv-loop μ-loop
 add-set c = search needs
 
--- src/main.rt:117:9
 set-requires-2 : tie.Need-set-requires-2 Inv-loop μ-loop
 set-requires-2 c κs = search needs
 
--- src/main.rt:114:9
 add-i : tie.Need-add-i Inv-loop μ-loop
 add-i c = search needs
 
--- src/main.rt:114:5
 loop-less : tie.Need-loop-less Inv-loop μ-loop
 loop-less c = search needs
 
--- src/main.rt:114:5
 loop-again : tie.Need-loop-again Inv-loop μ-loop
 loop-again c = (omega arith, omega arith, omega arith)
 
--- src/main.rt:111:1
 same-length : tie.Need-same-length Inv-loop μ-loop
 same-length c = search needs
 
--- src/main.rt:111:1
 returns : tie.Need-returns Inv-loop μ-loop
 returns c = search needs
 
