@@ -3,3 +3,4 @@ pub mod Pieces
 pub mod Examples
 pub mod Rounded
 pub mod Clear
+pub mod Levels

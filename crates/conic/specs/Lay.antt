@@ -5,13 +5,14 @@ use mathlib.Core.Bool.{Bool, true, _&&_}
 use mathlib.Core.List.{List, [], _∷_}
 use lib.ListN.{getD, length}
 use lib.Seq.{sets}
-use lib.Ieee.{Float, nan, binary32, ofBits, le}
+use lib.Ieee.{Float, nan, binary32, ofBits, lt, le}
+use Rattle.float.specs.Arith.{f0}
 use Rattle.vec2.specs.declared.Vec2.{Vec2}
 use Rattle.vec2.specs.Vec2.{vec}
 use Rattle.vec2.specs.Points.{flat}
 use Rattle.path.specs.declared.Segment.{Segment}
 use Rattle.path.specs.Segment.{bytesOf, allPoints}
-use Rattle.conic.specs.Conic.{near, leftOf, rightOf, middle, split}
+use Rattle.conic.specs.Conic.{near, leftOf, rightOf, middle, halfWeight, split}
 
 -- "a split half is three points in an array"
 abbrev pub Half : Type 0
@@ -37,6 +38,15 @@ single (suc k) h w = near (pointOf h 0) (pointOf h 1) (pointOf h 2) w
 -- the quads of a half that may be split k times more
 unfoldable pub pieces : ℕ → Half → Float → List Segment
 pieces k h w = split k (near (pointOf h 0) (pointOf h 1) (pointOf h 2) w) (pointOf h 0) (pointOf h 1) (pointOf h 2) w
+
+-- g, where it is above 0, is the weight of w's halves
+abbrev pub Given : Float → Float → Type 0
+Given g w = lt f0 g ≡ true → (lt f0 w ≡ true) × (g ≡ halfWeight w)
+
+-- Of the k levels below weight w: where ws has a weight above 0 at k − 1, it is that of w's halves, and so on down.
+abbrev pub Levels : ℕ → Float → List Float → Type 0
+Levels zero w ws = Unit
+Levels (suc k) w ws = (lt f0 (getD ws k nan) ≡ true → getD ws k nan ≡ halfWeight w) × Levels k (halfWeight w) ws
 
 -- the list of quads has been stored, verbs from v on and floats from f on, and r is its length
 pub record Bent (qs : List Segment) (r : ℕ) (vs : List ℕ) (v : ℕ) (vs' : List ℕ) (fs : List Float) (f : ℕ) (fs' : List Float) : Type 0 where

@@ -6,7 +6,7 @@ ghost use lib.ListN.{length};
 ghost use lib.Ieee.{binary32};
 ghost use Rattle.float.specs.Root.{squareRoot};
 ghost use Rattle.conic.specs.Conic.{straight, square, gap, within, near, leftOf, rightOf, middle, halfWeight, quads};
-ghost use Rattle.conic.specs.Lay.{pointOf, halfOf, leftHalf, rightHalf, moderate, single, pieces, Bent};
+ghost use Rattle.conic.specs.Lay.{Given, Levels, pointOf, halfOf, leftHalf, rightHalf, moderate, single, pieces, Bent};
 ghost use Rattle.path.specs.declared.Segment.the-variants.{Quad};
 use vec2::Vec2;
 
@@ -147,7 +147,7 @@ fn is_moderate(x: f32) -> bool
     1e-30 <= x && x <= 1e30
 }
 
-// The same, with no root taken where the squares are clearly apart: three roots a split would take most of the time.
+// The same, with no root taken where the squares are clearly apart: the roots would take most of the time.
 fn is_within(chord: f32, gap: f32) -> bool
     ensures { λ r. ⌜ r ≡ within (squareRoot binary32 chord) (squareRoot binary32 gap) ⌝ }
 {
@@ -220,28 +220,70 @@ fn put_quad(h: [[f32; 2]; 3], verbs: &mut [u8], v: usize, floats: &mut [f32], f:
     1
 }
 
+// ---- the weights of each level, so that a root is not taken again at every half of it
+
+// The weight of a conic's halves, above 0; and 0 for a weight so near 1 that few of its halves are split, and for 0.
+fn far_weight(weight: f32) -> f32
+    ensures { λ r. ⌜ Given r weight ⌝ }
+{
+    if weight > 0.0 {
+        if float::abs(weight - 1.0) > 0.02 {
+            return split_weight(weight);
+        }
+    }
+    0.0
+}
+
+// From the last level to the first. A small weight gives few quads: its roots are taken as they are asked for.
+fn level_weights(weight: f32) -> [f32; 6]
+    ensures { λ r. ⌜ Levels 6 weight r ⌝ }
+{
+    if weight <= 2.0 {
+        return [0.0; 6];
+    }
+    let a = far_weight(weight);
+    let b = far_weight(a);
+    let c = far_weight(b);
+    let d = far_weight(c);
+    let e = far_weight(d);
+    [far_weight(e), e, d, c, b, a]
+}
+
+// The weight of the halves of a half that may be split k times more.
+fn level_weight(weight: f32, levels: &[f32; 6], k: usize) -> f32
+    requires { ⌜ (1 ≤ k) × (k ≤ 6) × Levels k weight (now levels) ⌝ }
+    ensures { λ r. ⌜ r ≡ halfWeight weight ⌝ }
+{
+    let given = levels[k - 1];
+    if given > 0.0 {
+        return given;
+    }
+    split_weight(weight)
+}
+
 // Lays the quads of a half that may be split k times more, and says how many they are.
 fn push_half(
     h: [[f32; 2]; 3],
     weight: f32,
+    levels: &[f32; 6],
     k: usize,
     verbs: &mut [u8],
     v: usize,
     floats: &mut [f32],
     f: usize,
 ) -> usize
-    requires { ⌜ (k ≤ 6) × (v + length (pieces k h weight) ≤ length (now verbs)) × (f + 4 * length (pieces k h weight) ≤ length (now floats)) ⌝ }
+    requires { ⌜ (k ≤ 6) × (v + length (pieces k h weight) ≤ length (now verbs)) × (f + 4 * length (pieces k h weight) ≤ length (now floats)) × Levels k weight (now levels) ⌝ }
     ensures { λ r. ⌜ Bent (pieces k h weight) r (now (verbs .entry)) v (now (verbs .exit)) (now (floats .entry)) f (now (floats .exit)) ⌝ }
 {
     if is_quad(h, weight, k) {
         return put_quad(h, verbs, v, floats, f);
     }
-    let u = split_weight(weight);
+    let u = level_weight(weight, levels, k);
     let left = left_half(h, weight);
     let right = right_half(h, weight);
     let j = k - 1;
-    let l = push_half(left, u, j, verbs, v, floats, f);
-    let r = push_half(right, u, j, verbs, v + l, floats, f + 4 * l);
+    let l = push_half(left, u, levels, j, verbs, v, floats, f);
+    let r = push_half(right, u, levels, j, verbs, v + l, floats, f + 4 * l);
     l + r
 }
 
@@ -259,5 +301,7 @@ pub fn push_conic(
     requires { ⌜ (v + length (quads from ctrl to weight) ≤ length (now verbs)) × (f + 4 * length (quads from ctrl to weight) ≤ length (now floats)) ⌝ }
     ensures { λ r. ⌜ Bent (quads from ctrl to weight) r (now (verbs .entry)) v (now (verbs .exit)) (now (floats .entry)) f (now (floats .exit)) ⌝ }
 {
-    push_half(half_of(from, ctrl, to), weight, 6, verbs, v, floats, f)
+    let levels = level_weights(weight);
+    let h = half_of(from, ctrl, to);
+    push_half(h, weight, &levels, 6, verbs, v, floats, f)
 }
