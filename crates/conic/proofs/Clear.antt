@@ -23,7 +23,7 @@ use Rattle.float.proofs.Squares.{le-of-square-le}
 use Rattle.float.proofs.Held.{magnitude-lt}
 use Rattle.float.proofs.Count.{above-pos, below-top}
 use Rattle.conic.specs.Conic.{thousandth, within}
-use Rattle.conic.specs.Lay.{lowest, highest, moderate, littleLess, littleMore}
+use Rattle.conic.specs.Lay.{lowest, highest, moderate}
 use Rattle.conic.proofs.Rounded.{Near, times-near, root-near}
 
 -- ---- whole numbers: c and g are the squares, r and q their roots, p is a thousandth of r, u the unit
@@ -138,7 +138,14 @@ module _ (r c u t : ℕ) (C : c < t) (under : 1024 * (r * r) ≤ 1025 * (c * u))
       let z : 0 < t * t = mul-pos o o in
       omega (arith, a, b, d, e, z, under))
 
--- ---- the constants as fractions
+-- ---- the constants, as fractions
+
+-- 0.995 and 1.005 millionths
+abbrev littleLess : Float
+littleLess = ofBits binary32 0x3585_8bf1
+
+abbrev littleMore : Float
+littleMore = ofBits binary32 0x3586_e389
 
 thousandth-is : HasValue thousandth false 8589935 (2 ^ 33)
 unfolding ofBits
@@ -198,7 +205,7 @@ untrue : (b : Bool) → (T b → ⊥) → b ≡ false
 untrue true n = absurd (n tt)
 untrue false n = refl
 
--- ---- the test: c and g are the squares of the chord and of the gap
+-- ---- The test: c and g are the squares of the chord and of the gap, C and G what they measure; P is a thousandth of the chord, M about a millionth of its square.
 
 module _ (c g : Float) (fc : T (fits binary32 c)) (fg : T (fits binary32 g)) (mc : moderate c ≡ true) (mg : moderate g ≡ true) where
   pc : T (positive c)
@@ -229,14 +236,12 @@ module _ (c g : Float) (fc : T (fits binary32 c)) (fg : T (fits binary32 g)) (mc
   pq : T (positive (squareRoot binary32 g))
   pq = positive-of-value (squareRoot binary32 g) (G .root) (2 ^ 149) (G .rooted) G-root
 
-  -- a thousandth of the chord
   P : Near (times thousandth (squareRoot binary32 c)) (2 ^ 33) (8589935 * C .root)
   P =
       let l : 2 ^ 33 ≤ C .root = root-least (C .root) (C .units) (2 ^ 149) (C .least) (C .over) (pow-mono {i = 80} {j = 149} (omega arith)) in
       times-near thousandth (squareRoot binary32 c) 8589935 (2 ^ 33) (C .root) (positive-of-value thousandth 8589935 (2 ^ 33) thousandth-is (omega arith)) pr (pow-pos 33)
       thousandth-is (C .rooted) (omega arith) (omega (arith, l)) (root-most (C .root) (C .units) (2 ^ 149) (2 ^ 277) (C .most) (C .under) (pow-mono {i = 150} {j = 277} (omega arith)))
 
-  -- a millionth of its square, a little less or more
   module _ (k : Float) (m : ℕ) (is : HasValue k false m (2 ^ 43)) (lo : 8388608 ≤ m) (hi : m < 16777216) where
     M : Near (times k c) (2 ^ 43) (m * C .units)
     M =

@@ -63,21 +63,17 @@ grid-near a c C h =
 -- ---- a constant m / d, at most a half, times x units
 
 module _ (p d u n : ℕ) (U : 0 < u) where
-  left-side : 1024 * (p * (d * u)) ≡ 1024 * (p * d) * u
-  left-side = ap (λ (x : ℕ). 1024 * x) (sym (mul-assoc p d u)) ∙ sym (mul-assoc 1024 (p * d) u)
+  p-side : (k : ℕ) → k * (p * (d * u)) ≡ k * (p * d) * u
+  p-side k = ap (λ (x : ℕ). k * x) (sym (mul-assoc p d u)) ∙ sym (mul-assoc k (p * d) u)
 
-  right-side : 1025 * (n * u) ≡ 1025 * n * u
-  right-side = sym (mul-assoc 1025 n u)
+  n-side : (k : ℕ) → k * (n * u) ≡ k * n * u
+  n-side k = sym (mul-assoc k n u)
 
   cancel-under : 1024 * (p * (d * u)) ≤ 1025 * (n * u) → 1024 * (p * d) ≤ 1025 * n
-  cancel-under h = le-of-mul-le-mul-right (le-trans (le-of-eq (sym left-side)) (le-trans h (le-of-eq right-side))) U
+  cancel-under h = le-of-mul-le-mul-right (le-trans (le-of-eq (sym (p-side 1024))) (le-trans h (le-of-eq (n-side 1025)))) U
 
-module _ (p d u n : ℕ) (U : 0 < u) where
   cancel-over : 1024 * (n * u) ≤ 1025 * (p * (d * u)) → 1024 * n ≤ 1025 * (p * d)
-  cancel-over h =
-      let l : 1024 * (n * u) ≡ 1024 * n * u = sym (mul-assoc 1024 n u) in
-      let r : 1025 * (p * (d * u)) ≡ 1025 * (p * d) * u = ap (λ (x : ℕ). 1025 * x) (sym (mul-assoc p d u)) ∙ sym (mul-assoc 1025 (p * d) u) in
-      le-of-mul-le-mul-right (le-trans (le-of-eq (sym l)) (le-trans h (le-of-eq r))) U
+  cancel-over h = le-of-mul-le-mul-right (le-trans (le-of-eq (sym (n-side 1024))) (le-trans h (le-of-eq (p-side 1025)))) U
 
 -- no more than x units themselves
 no-more : (p d m x : ℕ) → 0 < d → 2 * m ≤ d → 1024 * (p * d) ≤ 1025 * (m * x) → p ≤ x

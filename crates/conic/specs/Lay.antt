@@ -54,9 +54,7 @@ pub record Bent (qs : List Segment) (r : ℕ) (vs : List ℕ) (v : ℕ) (vs' : L
   pub verbs : vs' ≡ sets vs v (bytesOf qs)
   pub floats : fs' ≡ sets fs f (flat (allPoints qs))
 
--- ---- the midpoints' test by squares
-
--- 1e-30 and 1e30
+-- from 1e-30 to 1e30: neither these nor their roots come near the ends of the format
 abbrev pub lowest : Float
 lowest = ofBits binary32 0x0da2_4260
 
@@ -65,10 +63,3 @@ highest = ofBits binary32 0x7149_f2ca
 
 abbrev pub moderate : Float → Bool
 moderate x = le lowest x && le x highest
-
--- 0.995 and 1.005 millionths
-abbrev pub littleLess : Float
-littleLess = ofBits binary32 0x3585_8bf1
-
-abbrev pub littleMore : Float
-littleMore = ofBits binary32 0x3586_e389
