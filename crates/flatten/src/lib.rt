@@ -265,47 +265,39 @@ fn put_if(out: &mut [f32], at: usize, wanted: bool, p: Vec2) -> usize
 }
 
 // Writes the points of a quad of n lines, from point `at` on: the inner ones, and the end, copied.
-fn write_quad(out: &mut [f32], at: usize, a: Vec2, c: Vec2, p: Vec2, n: usize)
+fn write_quad(out: &mut [f32], at: usize, a: Vec2, c: Vec2, p: Vec2, n: u16)
     requires { ⌜ (1 ≤ n) × (n ≤ 1000) × (2 * (at + n) ≤ length (now out)) ⌝ }
     ensures { λ r. ⌜ now (out .exit) ≡ sets (now (out .entry)) (2 * at) (flat (curved (evalQuad a c p) n p)) ⌝ }
 {
-    let mut k: usize = 0;
+    let mut k: u16 = 0;
     let m = n - 1;
     let whole = n as f32;
     while k < m {
         let i = k + 1;
         let t = i as f32 / whole;
         let q = curve::eval_quad(a, c, p, t);
-        let j = 2 * (at + k);
-        out[j] = q.x;
-        out[j + 1] = q.y;
+        put_point(out, at + k as usize, q);
         k = i;
     }
-    let j = 2 * (at + m);
-    out[j] = p.x;
-    out[j + 1] = p.y;
+    put_point(out, at + m as usize, p);
 }
 
 // The same for a cubic.
-fn write_cubic(out: &mut [f32], at: usize, a: Vec2, c: Vec2, d: Vec2, p: Vec2, n: usize)
+fn write_cubic(out: &mut [f32], at: usize, a: Vec2, c: Vec2, d: Vec2, p: Vec2, n: u16)
     requires { ⌜ (1 ≤ n) × (n ≤ 1000) × (2 * (at + n) ≤ length (now out)) ⌝ }
     ensures { λ r. ⌜ now (out .exit) ≡ sets (now (out .entry)) (2 * at) (flat (curved (evalCubic a c d p) n p)) ⌝ }
 {
-    let mut k: usize = 0;
+    let mut k: u16 = 0;
     let m = n - 1;
     let whole = n as f32;
     while k < m {
         let i = k + 1;
         let t = i as f32 / whole;
         let q = curve::eval_cubic(a, c, d, p, t);
-        let j = 2 * (at + k);
-        out[j] = q.x;
-        out[j + 1] = q.y;
+        put_point(out, at + k as usize, q);
         k = i;
     }
-    let j = 2 * (at + m);
-    out[j] = p.x;
-    out[j + 1] = p.y;
+    put_point(out, at + m as usize, p);
 }
 
 // Writes the inner points of a drawn segment, and its end.
@@ -321,14 +313,14 @@ fn write_body(out: &mut [f32], at: usize, tolerance: f32, w: Spot, s: Segment) -
             at + 1
         }
         Segment::Quad(c, p) => {
-            let n = curve::quad_segment_count(pen, c, p, tolerance) as usize;
-            write_quad(out, at, pen, c, p, n);
-            at + n
+            let n = curve::quad_segment_count(pen, c, p, tolerance);
+            write_quad(out, at, pen, c, p, n as u16);
+            at + n as usize
         }
         Segment::Cubic(c, d, p) => {
-            let n = curve::cubic_segment_count(pen, c, d, p, tolerance) as usize;
-            write_cubic(out, at, pen, c, d, p, n);
-            at + n
+            let n = curve::cubic_segment_count(pen, c, d, p, tolerance);
+            write_cubic(out, at, pen, c, d, p, n as u16);
+            at + n as usize
         }
         Segment::Close => at,
     }

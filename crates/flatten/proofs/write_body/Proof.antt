@@ -24,11 +24,14 @@ enum-known-s-2 c = search needs
 quad-segment-count-requires : tie.Need-quad-segment-count-requires
 quad-segment-count-requires c κs = search needs
 
-cast-n : tie.Need-cast-n
-cast-n c = search needs
+cast-write-quad : tie.Need-cast-write-quad
+cast-write-quad c = let a = c .before .before .before .before .before .before .before .args in let q = a-quad (a .tolerance) (a .w) (a .s) _ _ (c .before .before .before .s2 .given .1) _ (c .before .quad-segment-count .ensures) in omega (arith, q .most)
 
 write-quad-requires : tie.Need-write-quad-requires
 write-quad-requires c κs = let a = c .before .before .before .before .before .before .before .args in let q = a-quad (a .tolerance) (a .w) (a .s) _ _ (c .before .before .before .s2 .given .1) _ (c .before .quad-segment-count .ensures) in (q .least, q .most, omega (arith, q .long))
+
+cast-result : tie.Need-cast-result
+cast-result c = search needs
 
 add-result-2 : tie.Need-add-result-2
 add-result-2 c = search needs
@@ -39,11 +42,14 @@ enum-known-s-3 c = search needs
 cubic-segment-count-requires : tie.Need-cubic-segment-count-requires
 cubic-segment-count-requires c κs = search needs
 
-cast-n-2 : tie.Need-cast-n-2
-cast-n-2 c = search needs
+cast-write-cubic : tie.Need-cast-write-cubic
+cast-write-cubic c = let a = c .before .before .before .before .before .before .before .args in let q = a-cubic (a .tolerance) (a .w) (a .s) _ _ _ (c .before .before .before .s3 .given .1) _ (c .before .cubic-segment-count .ensures) in omega (arith, q .most)
 
 write-cubic-requires : tie.Need-write-cubic-requires
 write-cubic-requires c κs = let a = c .before .before .before .before .before .before .before .args in let q = a-cubic (a .tolerance) (a .w) (a .s) _ _ _ (c .before .before .before .s3 .given .1) _ (c .before .cubic-segment-count .ensures) in (q .least, q .most, omega (arith, q .long))
+
+cast-result-2 : tie.Need-cast-result-2
+cast-result-2 c = search needs
 
 add-result-3 : tie.Need-add-result-3
 add-result-3 c = search needs
@@ -88,13 +94,15 @@ write-body-spec =
     add-result
     enum-known-s-2
     quad-segment-count-requires
-    cast-n
+    cast-write-quad
     write-quad-requires
+    cast-result
     add-result-2
     enum-known-s-3
     cubic-segment-count-requires
-    cast-n-2
+    cast-write-cubic
     write-cubic-requires
+    cast-result-2
     add-result-3
     enum-told-2
     returns

@@ -1,10 +1,8 @@
 use borrow.Author.Needs.{needs}
-use mathlib.Core.Path.{_≡_, refl}
-use Prim.Native.Nat.{_+_, _-_, _*_, _≤_}
+use mathlib.Core.Path.{_≡_, refl, _∙_}
+use Prim.Native.Nat.{_-_, _*_, _≤_}
 use native.Mathlib.Omega.{arith}
-use lib.ListN.{length, length-set}
-use lib.Dec.{le→leb}
-use lib.Ieee.{inFloat}
+use lib.ListN.{length}
 use lib.Seq.{sets}
 use Rattle.vec2.specs.Points.{flat}
 use Rattle.curve.specs.Count.{evalCubic}
@@ -13,8 +11,7 @@ use Rattle.flatten.proofs.write_cubic.Statement.{statement}
 use Rattle.flatten.proofs.write_cubic.Tie as tie
 
 abbrev Inv-loop : tie.InvT-loop
-Inv-loop out₀ at a c d p n k₀ m whole out k =
-    (k ≤ m) × (length out ≡ length out₀) × (out ≡ sets out₀ (2 * at) (flat (inner (evalCubic a c d p) n k)))
+Inv-loop out₀ at a c d p n k₀ m whole out k = (k ≤ m) × (length out ≡ length out₀) × (out ≡ sets out₀ (2 * at) (flat (inner (evalCubic a c d p) n k)))
 
 abbrev μ-loop : tie.MeasureT-loop
 μ-loop out₀ at a c d p n k₀ m whole out k = m - k
@@ -23,8 +20,7 @@ sub-m : tie.Need-sub-m Inv-loop μ-loop
 sub-m c = search needs
 
 int-to-float-whole : tie.Need-int-to-float-whole Inv-loop μ-loop
-unfolding inFloat
-int-to-float-whole c = le→leb (c .before .before .args .n) 16777216 (omega arith)
+int-to-float-whole c = search needs
 
 loop-holds : tie.Need-loop-holds Inv-loop μ-loop
 loop-holds c = (omega arith, refl, refl)
@@ -33,70 +29,45 @@ add-i : tie.Need-add-i Inv-loop μ-loop
 add-i c = search needs
 
 int-to-float-t : tie.Need-int-to-float-t Inv-loop μ-loop
-unfolding inFloat
-int-to-float-t c = le→leb (c .before .before .loop .k + 1) 16777216 (omega arith)
+int-to-float-t c = search needs
 
 eval-cubic-requires : tie.Need-eval-cubic-requires Inv-loop μ-loop
 eval-cubic-requires c κs = search needs
 
-add-j : tie.Need-add-j Inv-loop μ-loop
-add-j c = search needs
+cast-put-point : tie.Need-cast-put-point Inv-loop μ-loop
+cast-put-point c = search needs
 
-mul-j : tie.Need-mul-j Inv-loop μ-loop
-mul-j c = search needs
+add-put-point : tie.Need-add-put-point Inv-loop μ-loop
+add-put-point c = search needs
 
-mul-out : tie.Need-mul-out Inv-loop μ-loop
-mul-out c = search needs
-
-slice-write-out : tie.Need-slice-write-out Inv-loop μ-loop
-slice-write-out c = search needs
-
-add-out : tie.Need-add-out Inv-loop μ-loop
-add-out c = search needs
-
-mul-out-2 : tie.Need-mul-out-2 Inv-loop μ-loop
-mul-out-2 c = search needs
-
-slice-write-out-2 : tie.Need-slice-write-out-2 Inv-loop μ-loop
-slice-write-out-2 c = simp length-set (omega arith)
+put-point-requires : tie.Need-put-point-requires Inv-loop μ-loop
+put-point-requires c κs = search needs
 
 loop-less : tie.Need-loop-less Inv-loop μ-loop
 loop-less c = search needs
 
 loop-again : tie.Need-loop-again Inv-loop μ-loop
 loop-again c =
-    let i = c .before .before .before .loop .inv in (
+    let i = c .before .before .before .before .before .before .before .loop .inv in (
       omega arith,
-      simp (length-set, length-set) (i .1),
-      one-more _ _ _ _ (evalCubic _ _ _ _) _ (i .2) (c .eval-cubic .result) (c .eval-cubic .ensures),
+      c .before .before .put-point .kept .0 ∙ i .1,
+      one-more _ _ _ _ _ (evalCubic _ _ _ _) _ (i .2) _ (c .before .before .before .before .eval-cubic .ensures) (c .before .before .put-point .ensures),
     )
 
-add-j-2 : tie.Need-add-j-2 Inv-loop μ-loop
-add-j-2 c = search needs
+cast-put-point-2 : tie.Need-cast-put-point-2 Inv-loop μ-loop
+cast-put-point-2 c = search needs
 
-mul-j-2 : tie.Need-mul-j-2 Inv-loop μ-loop
-mul-j-2 c = search needs
+add-put-point-2 : tie.Need-add-put-point-2 Inv-loop μ-loop
+add-put-point-2 c = search needs
 
-mul-out-3 : tie.Need-mul-out-3 Inv-loop μ-loop
-mul-out-3 c = search needs
-
-slice-write-out-3 : tie.Need-slice-write-out-3 Inv-loop μ-loop
-slice-write-out-3 c = search needs
-
-add-out-2 : tie.Need-add-out-2 Inv-loop μ-loop
-add-out-2 c = search needs
-
-mul-out-4 : tie.Need-mul-out-4 Inv-loop μ-loop
-mul-out-4 c = search needs
-
-slice-write-out-4 : tie.Need-slice-write-out-4 Inv-loop μ-loop
-slice-write-out-4 c = simp length-set (omega arith)
+put-point-requires-2 : tie.Need-put-point-requires-2 Inv-loop μ-loop
+put-point-requires-2 c κs = search needs
 
 same-length : tie.Need-same-length Inv-loop μ-loop
 same-length c = search needs
 
 returns : tie.Need-returns Inv-loop μ-loop
-returns c = the-end _ _ _ (c .before .loop .k) (evalCubic _ _ _ _) _ (c .before .loop .inv .2) _ (omega arith)
+returns c = the-end _ _ _ _ (c .before .before .before .before .before .loop .k) (evalCubic _ _ _ _) _ (c .before .before .before .before .before .loop .inv .2) _ (omega arith) (c .before .before .put-point2 .ensures)
 
 pub write-cubic-spec : {M : Type 1} → statement M
 write-cubic-spec =
@@ -110,21 +81,13 @@ write-cubic-spec =
     add-i
     int-to-float-t
     eval-cubic-requires
-    add-j
-    mul-j
-    mul-out
-    slice-write-out
-    add-out
-    mul-out-2
-    slice-write-out-2
+    cast-put-point
+    add-put-point
+    put-point-requires
     loop-less
     loop-again
-    add-j-2
-    mul-j-2
-    mul-out-3
-    slice-write-out-3
-    add-out-2
-    mul-out-4
-    slice-write-out-4
+    cast-put-point-2
+    add-put-point-2
+    put-point-requires-2
     same-length
     returns)
