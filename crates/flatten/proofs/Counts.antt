@@ -1,6 +1,7 @@
--- The count of one verb: its loop and its ways out. Assumes nothing.
-use mathlib.Core.Path.{_≡_, refl}
-use mathlib.Core.List.{List}
+-- The count of one verb: its loop, its ways out, and that it is the N that the curve is written with (`asked`). Assumes nothing.
+use mathlib.Core.Path.{_≡_, refl, _∙_}
+use mathlib.Core.Bool.{true}
+use mathlib.Core.List.{List, [], _∷_, _++_}
 use Prim.Native.Nat.{ℕ, zero, suc, _+_, _-_, _≤_, _<_}
 use native.Mathlib.Numerals.{add-one}
 use native.Mathlib.Omega.{arith}
@@ -8,10 +9,11 @@ use lib.ListN.{length, getD, drop-of-length-le}
 use lib.Ieee.{Float}
 use Rattle.flatten.specs.declared.Spot.{Spot}
 use Rattle.path.specs.declared.Segment.{Segment}
-use Rattle.path.specs.Segment.{used, segAt, segments}
+use Rattle.path.specs.Segment.{isCurve, used, segAt, segments}
 use Rattle.path.specs.Check.{badPath}
 use Rattle.path.proofs.Steps.{left, next-left}
-use Rattle.flatten.specs.Flatten.{nowhere, after, curveCount, countAt, carriedCount}
+use Rattle.flatten.specs.Flatten.{nowhere, after, spot, curveCount, countAt, carriedCount}
+use Rattle.flatten.specs.Kept.{carried}
 
 -- a turn: one segment more is passed
 pub count-turn : (vs : List ℕ) (fs : List Float) (i k j : ℕ) (tol : Float) (w : Spot) (all : ℕ) → i < length vs → i < j →
@@ -49,3 +51,15 @@ module _ (vs : List ℕ) (fs : List Float) (tol : Float) (j : ℕ) where
   pub good-path : (n : ℕ) → n ≡ badPath vs fs → n ≡ 0 → (c : ℕ) → c ≡ countAt tol nowhere (segments vs fs) j → record { count = c; refused = 0 } ≡ carriedCount vs fs tol j
   unfolding carriedCount
   good-path n e z c h = rw (h, ← e, z)
+
+-- ---- the N that is asked for is the carried count
+
+count-behind : (tol : Float) (pre : List Segment) (s : Segment) (post : List Segment) (w : Spot) →
+    countAt tol w (pre ++ s ∷ post) (length pre) ≡ curveCount tol (spot w pre) s
+unfolding countAt spot
+count-behind tol [] s post w = refl
+count-behind tol (x ∷ pre) s post w = count-behind tol pre s post (after w x)
+
+pub asked : (tol : Float) (pre : List Segment) (s : Segment) (post : List Segment) → isCurve s ≡ true →
+    countAt tol nowhere (pre ++ s ∷ post) (length pre) ≡ carried tol pre s
+asked tol pre s post h = count-behind tol pre s post nowhere ∙ rw h

@@ -19,12 +19,14 @@ use Rattle.flatten.specs.Flatten.{pointsOut, endsOut, told, flatRefusal,
 use Rattle.flatten.specs.Kept.{Kept}
 use Rattle.flatten.proofs.Lengths.{sum, polylines-are-starts}
 use Rattle.flatten.proofs.Ends.{stands, in-order}
+use Rattle.flatten.proofs.Counts.{asked}
 use Rattle.flatten.proofs.Call.{first-false}
 
 pub kept : (tol : Float) (ss : List Segment) → Kept tol ss (told tol ss) (pointsOut tol ss) (endsOut tol ss)
 kept tol ss =
     record {
       stand = λ pre s post e h. rw e (stands tol pre s post h);
+      asked = λ pre s post e h. rw e (asked tol pre s post h);
       order = λ pre s mid u post e h g. in-order tol pre s mid u h;
       all = refl;
       polylines = polylines-are-starts tol ss;

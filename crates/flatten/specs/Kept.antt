@@ -9,11 +9,11 @@ use Rattle.vec2.specs.declared.Vec2.{Vec2}
 use Rattle.vec2.specs.Vec2.{origin}
 use Rattle.path.specs.declared.Segment.{Segment}
 use Rattle.path.specs.declared.Segment.the-variants.{Move, Line, Quad, Cubic, Close}
-use Rattle.path.specs.Segment.{isDrawn, endOf}
+use Rattle.path.specs.Segment.{isDrawn, isCurve, endOf}
 use Rattle.curve.specs.Count.{quadS, cubicS, Counted}
 use Rattle.flatten.specs.declared.Spot.{Spot}
 use Rattle.flatten.specs.declared.Flattened.{Flattened}
-use Rattle.flatten.specs.Flatten.{nowhere, spot, places, opens, onlyIf, written, pointsOut, endsOut, keptStarts, lines, counts, addedClosings}
+use Rattle.flatten.specs.Flatten.{nowhere, spot, places, opens, onlyIf, written, pointsOut, endsOut, keptStarts, lines, counts, addedClosings, countAt}
 
 -- ---- N
 
@@ -49,6 +49,9 @@ pub record Stands (tol : Float) (pre : List Segment) (s : Segment) (pts : List V
 pub record Kept (tol : Float) (ss : List Segment) (t : Flattened) (pts : List Vec2) (ends : List ℕ) : Type 0 where
   -- every line and curve stands
   pub stand : (pre : List Segment) (s : Segment) (post : List Segment) → ss ≡ pre ++ s ∷ post → isDrawn s ≡ true → Stands tol pre s pts
+  -- the N that is asked for at a curve's verb is the one that it is written with
+  pub asked : (pre : List Segment) (s : Segment) (post : List Segment) → ss ≡ pre ++ s ∷ post → isCurve s ≡ true →
+      countAt tol nowhere ss (length pre) ≡ carried tol pre s
   -- in order: a later one begins no earlier than an earlier one ends
   pub order : (pre : List Segment) (s : Segment) (mid : List Segment) (u : Segment) (post : List Segment) → ss ≡ pre ++ s ∷ (mid ++ u ∷ post) →
       isDrawn s ≡ true → isDrawn u ≡ true → length (before tol pre s) + carried tol pre s ≤ length (before tol (pre ++ s ∷ mid) u)
