@@ -24,7 +24,7 @@ module _ {P : Type 0} (g : Plane P) (ps : List P) where
 
   -- a point that differs is m steps on, and as many may be passed over
   finds : (b : P) (m left k : ℕ) (s : Bool) → g .same (at g ps k) b ≡ s → k < length ps → m ≤ left → g .same (past k m) b ≡ false
-      → g .same (seek g ps left s b k) b ≡ false
+      → g .same (at g ps (seek g ps left s b k)) b ≡ false
   unfolding seek
   finds b zero zero k false q h l d = q
   finds b zero (suc left) k false q h l d = q
@@ -41,7 +41,7 @@ module _ {P : Type 0} (g : Plane P) (ps : List P) where
       let all : i + 2 + (length ps - 2) ≡ i + length ps = omega arith in
       rw (mod-add-mod, all, add-mod-right, mod-eq-of-lt h)
 
-  pub next-differs : (i : ℕ) → i < length ps → 2 ≤ length ps → (b : P) → g .same (at g ps i) b ≡ false → g .same (next g ps b ((i + 2) % length ps)) b ≡ false
+  pub next-differs : (i : ℕ) → i < length ps → 2 ≤ length ps → (b : P) → g .same (at g ps i) b ≡ false → g .same (at g ps (next g ps b ((i + 2) % length ps))) b ≡ false
   unfolding next
   next-differs i h two b d =
       finds b (length ps - 2) (length ps) ((i + 2) % length ps) _ refl (mod-lt (i + 2) (omega arith)) (omega arith) (ap (λ (p : P). g .same p b) (round i h two) ∙ d)

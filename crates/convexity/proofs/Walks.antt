@@ -1,11 +1,11 @@
 -- The laws of the search and of the walk that the loops follow, over any points. Assumes nothing.
 use mathlib.Core.Path.{_≡_, refl, sym, ap, _∙_}
-use mathlib.Core.Bool.{Bool, true, false, cond}
+use mathlib.Core.Bool.{Bool, true, false}
 use mathlib.Core.List.{List, [], _∷_}
-use Prim.Native.Nat.{ℕ, zero, suc, _+_, _-_, _*_, _/_, _%_, _≤_, _<_}
+use Prim.Native.Nat.{ℕ, zero, suc, _+_, _-_, _/_, _%_, _≤_, _<_}
 use native.Mathlib.Omega.{arith}
 use native.Mathlib.Numerals.{add-one}
-use lib.ListN.{length, getD}
+use lib.ListN.{length}
 use lib.Ieee.{Float}
 use Rattle.vec2.specs.declared.Vec2.{Vec2}
 use Rattle.vec2.specs.Points.{pointsIn, pointAt}
@@ -13,12 +13,13 @@ use Rattle.vec2.proofs.Points.{pointsIn-at}
 use Rattle.convexity.specs.declared.Turn.{Turn}
 use Rattle.convexity.specs.declared.Tally.{Tally}
 use Rattle.convexity.specs.declared.answer.Reason.{Reason}
-use Rattle.convexity.specs.declared.answer.Reason.the-variants.{NoTurn, Opposing}
+use Rattle.convexity.specs.declared.answer.Reason.the-variants.{Opposing}
 use Rattle.convexity.specs.declared.Side.{Side}
 use Rattle.convexity.specs.declared.Side.the-variants.{Straight, Left, Right}
 use Rattle.convexity.specs.Turn.{opposed, countedAs, counted, ended}
 use Rattle.convexity.specs.Walk.{Plane, Junction, at, seek, next, junctionAt, unlessSame, junctionsFrom, judge}
 use Rattle.convexity.specs.Plane.{floats}
+use Rattle.convexity.proofs.Never.{next-differs}
 
 -- a point that is read from the buffer is that point of the list
 pub read : (fs : List Float) (k : ℕ) (p : Vec2) → k < length fs / 2 → p ≡ pointAt fs k → p ≡ at floats (pointsIn fs) k
@@ -36,12 +37,12 @@ counted-most t u turned e h = rw e (counted-as t (turned .side) (turned .advance
 module _ {P : Type 0} (g : Plane P) (ps : List P) (n : ℕ) (e : length ps ≡ n) where
   -- ---- the search: `left` more may be passed over
   module _ (b : P) where
-    pub seek-stop : (left k : ℕ) (s : Bool) → s ≡ false → at g ps k ≡ seek g ps left s b k
+    pub seek-stop : (left k : ℕ) (s : Bool) → s ≡ false → k ≡ seek g ps left s b k
     unfolding seek
     seek-stop zero k s h = refl
     seek-stop (suc left) k s h = sym (ap (λ (z : Bool). seek g ps (suc left) z b k) h)
 
-    pub seek-end : (left k : ℕ) (s : Bool) → left ≤ 0 → at g ps k ≡ seek g ps left s b k
+    pub seek-end : (left k : ℕ) (s : Bool) → left ≤ 0 → k ≡ seek g ps left s b k
     unfolding seek
     seek-end zero k s h = refl
     seek-end (suc left) k s h = absurd (omega arith)
@@ -79,22 +80,23 @@ module _ {P : Type 0} (g : Plane P) (ps : List P) (n : ℕ) (e : length ps ≡ n
     pub on-none : g .same a b ≡ true → judge g t (ahead (i + 1)) ≡ r
     on-none s = at-edge true s
 
-    module _ (long : g .same a b ≡ false) (m : ℕ) (isM : m ≡ (i + 2) % n) (c : P) (isC : c ≡ next g ps b m) where
+    module _ (two : 2 ≤ n) (long : g .same a b ≡ false) (m : ℕ) (isM : m ≡ (i + 2) % n) (k : ℕ) (isK : k ≡ next g ps b m) (c : P) (isC : c ≡ at g ps k) where
       here : Junction P
       here = record { index = j; a = a; b = b; c = c }
 
       is-here : junctionAt g ps i ≡ here
       unfolding junctionAt here
-      is-here = rw (e, ← isJ, ← isA, ← isB, ← isM, ← isC)
+      is-here = rw (e, ← isJ, ← isA, ← isB, ← isM, ← isK, ← isC)
 
       at-here : judge g t (here ∷ ahead (i + 1)) ≡ r
       at-here = sym (ap (λ (z : Junction P). judge g t (z ∷ ahead (i + 1))) is-here) ∙ at-edge false long
 
-      pub on-alone : g .same c b ≡ true → NoTurn ≡ r
-      unfolding judge here
-      on-alone s = sym (rw s) ∙ at-here
+      differs : g .same c b ≡ false
+      differs =
+          rw (isC, isK, isM, ← e)
+          (next-differs g ps i (omega arith) (omega arith) b (rw (← isA) long))
 
-      module _ (differs : g .same c b ≡ false) (turned : Turn) (isTurn : turned ≡ g .turn a b c) where
+      module _ (turned : Turn) (isTurn : turned ≡ g .turn a b c) where
         pub on-opposed : opposed (t .side) (turned .side) ≡ true → Opposing j ≡ r
         unfolding judge here
         on-opposed o = sym (rw (differs, ← isTurn, o)) ∙ at-here

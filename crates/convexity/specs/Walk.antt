@@ -30,21 +30,21 @@ module _ {P : Type 0} (g : Plane P) (ps : List P) where
   abbrev pub at : ℕ → P
   at k = getD ps k (g .nowhere)
 
-  -- the point at which a search for one that differs from b ends: `left` more may be passed over, and e says whether the point at k is the same as b
-  unfoldable pub seek : ℕ → Bool → P → ℕ → P
-  seek zero e b k = at k
-  seek (suc left) false b k = at k
+  -- the index at which a search for a point that differs from b ends: `left` more may be passed over, and e says whether the point at k is the same as b
+  unfoldable pub seek : ℕ → Bool → P → ℕ → ℕ
+  seek zero e b k = k
+  seek (suc left) false b k = k
   seek (suc left) true b k = let k' = (k + 1) % length ps in seek left (g .same (at k') b) b k'
 
   -- from the point at k on, round the list
-  unfoldable pub next : P → ℕ → P
+  unfoldable pub next : P → ℕ → ℕ
   next b k = seek (length ps) (g .same (at k) b) b k
 
   -- at the end of the edge from point i
   unfoldable pub junctionAt : ℕ → Junction P
   junctionAt i =
       let j = (i + 1) % length ps in
-      record { index = j; a = at i; b = at j; c = next (at j) ((i + 2) % length ps) }
+      record { index = j; a = at i; b = at j; c = at (next (at j) ((i + 2) % length ps)) }
 
   -- an edge that has no length has no junction
   abbrev pub unlessSame : Bool → Junction P → List (Junction P) → List (Junction P)

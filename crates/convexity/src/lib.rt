@@ -155,11 +155,11 @@ fn around(k: usize, n: usize) -> usize
     if k < n { k } else { k - n }
 }
 
-// The first point from k on, round the list, that differs from b. Only repeats of b are read twice, once here and once
-// by the walk, so that the walk is linear.
-fn next_other(points: &[f32], b: Vec2, from: usize) -> Vec2
+// The first point, round the list, that differs from b. Only repeats of b are passed over, and they belong to b's edge
+// alone, so that all searches of a walk together are linear.
+fn next_other(points: &[f32], b: Vec2, from: usize) -> usize
     requires { do ⌜ from < (← ⟦points.len()⟧) / 2 ⌝ }
-    ensures { λ r. ⌜ r ≡ next plane (pointsIn (now (points .entry))) b from ⌝ }
+    ensures { λ r. ⌜ (r ≡ next plane (pointsIn (now (points .entry))) b from) × (r < length (now (points .entry)) / 2) ⌝ }
 {
     let n = points.len() / 2;
     let mut k = from;
@@ -167,15 +167,16 @@ fn next_other(points: &[f32], b: Vec2, from: usize) -> Vec2
     while 0 < left {
         let p = path::point_at(points, k);
         if !p.same(b) {
-            return p;
+            return k;
         }
         k = around(k + 1, n);
         left -= 1;
     }
-    path::point_at(points, k)
+    k
 }
 
-// Walks the edges that have length, and judges the turn at the end of each.
+// Walks the edges that have length, and judges the turn at the end of each. The source also asks whether the next point is b
+// again, which never holds.
 fn walk(points: &[f32]) -> Reason
     requires { do ⌜ (3 ≤ (← ⟦points.len()⟧) / 2) × ((← ⟦points.len()⟧) / 2 ≤ 131072) ⌝ }
     ensures { λ r. ⌜ r ≡ walked plane (pointsIn (now (points .entry))) ⌝ }
@@ -192,10 +193,8 @@ fn walk(points: &[f32]) -> Reason
         let a = path::point_at(points, i);
         let b = path::point_at(points, j);
         if !a.same(b) {
-            let c = next_other(points, b, around(i + 2, n));
-            if c.same(b) {
-                return Reason::NoTurn;
-            }
+            let k = next_other(points, b, around(i + 2, n));
+            let c = path::point_at(points, k);
             let turned = turn_at(a, b, c);
             let past = t.side;
             let side = turned.side;

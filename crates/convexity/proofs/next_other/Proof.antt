@@ -42,7 +42,7 @@ returns c =
     let found = read fs (l .k) _ (l .inv .0) (c .before .before .point-at .ensures) in
     let other : sameAs (at plane (pointsIn fs) (l .k)) (a .b) ≡ false =
     ap (λ (p : Vec2). sameAs p (a .b)) (sym found) ∙ sym (c .before .same .ensures) ∙ not-true _ (c .if1 .taken) in
-    found ∙ seek-stop plane (pointsIn fs) _ (length-pointsIn fs) (a .b) (l .left) (l .k) _ other ∙ l .inv .2
+    (seek-stop plane (pointsIn fs) _ (length-pointsIn fs) (a .b) (l .left) (l .k) _ other ∙ l .inv .2, l .inv .0)
 
 add-around : tie.Need-add-around Inv-loop μ-loop
 add-around c = search needs
@@ -70,15 +70,12 @@ loop-again c =
       seek-pass plane (pointsIn fs) _ (length-pointsIn fs) (a .b) (l .left) (l .k) _ _ (omega arith) passed (c .around .ensures .0) ∙ l .inv .2,
     )
 
-point-at-requires-2 : tie.Need-point-at-requires-2 Inv-loop μ-loop
-point-at-requires-2 c κs = omega arith
-
 returns-2 : tie.Need-returns-2 Inv-loop μ-loop
 returns-2 c =
-    let l = c .before .before .loop in
-    let a = c .before .before .before .before .args in
+    let l = c .before .loop in
+    let a = c .before .before .before .args in
     let fs = now (a .points) in
-    read fs (l .k) _ (l .inv .0) (c .point-at2 .ensures) ∙ seek-end plane (pointsIn fs) _ (length-pointsIn fs) (a .b) (l .left) (l .k) _ (omega arith) ∙ l .inv .2
+    (seek-end plane (pointsIn fs) _ (length-pointsIn fs) (a .b) (l .left) (l .k) _ (omega arith) ∙ l .inv .2, l .inv .0)
 
 pub next-other-spec : {M : Type 1} → statement M
 next-other-spec =
@@ -95,5 +92,4 @@ next-other-spec =
     sub-left
     loop-less
     loop-again
-    point-at-requires-2
     returns-2)

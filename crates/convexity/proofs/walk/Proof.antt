@@ -13,7 +13,7 @@ use Rattle.vec2.proofs.Points.{length-pointsIn}
 use Rattle.convexity.specs.Plane.{floats as plane}
 use Rattle.convexity.specs.Walk.{junctions, judge, walked}
 use Rattle.convexity.specs.declared.Tally.{Tally}
-use Rattle.convexity.proofs.Walks.{read, ahead, counted-most, on-none, on-alone, on-opposed, on-counted, on-end}
+use Rattle.convexity.proofs.Walks.{read, ahead, counted-most, on-none, on-opposed, on-counted, on-end}
 use Rattle.convexity.proofs.walk.Statement.{statement}
 use Rattle.convexity.proofs.walk.Tie as tie
 
@@ -53,20 +53,8 @@ around-requires-2 c κs = omega arith
 next-other-requires : tie.Need-next-other-requires Inv-loop μ-loop
 next-other-requires c κs = c .around2 .ensures .1
 
-same-requires-2 : tie.Need-same-requires-2 Inv-loop μ-loop
-same-requires-2 c κs = tt
-
-returns : tie.Need-returns Inv-loop μ-loop
-returns c =
-    let d = c .before .before .before in
-    let q = d .before .before in
-    let j = q .before .before .before in
-    let l = j .before .before .loop in
-    let fs = now (j .before .before .before .before .args .points) in
-    on-alone plane (pointsIn fs) _ (length-pointsIn fs) (l .t) (l .i) _ (j .before .loop-test .taken) (j .around .ensures .0) _ (l .inv .4)
-    _ _ (read fs _ _ (j .before .loop-test .taken) (q .before .before .point-at .ensures)) (read fs _ _ (j .around .ensures .1) (q .before .point-at2 .ensures))
-    (sym (q .same .ensures) ∙ not-true _ (d .before .if1 .taken))
-    _ (d .around2 .ensures .0) _ (c .before .before .next-other .ensures) (sym (c .before .same2 .ensures) ∙ c .if2 .taken)
+point-at-requires-3 : tie.Need-point-at-requires-3 Inv-loop μ-loop
+point-at-requires-3 c κs = omega arith
 
 turn-at-requires : tie.Need-turn-at-requires Inv-loop μ-loop
 turn-at-requires c κs = tt
@@ -74,19 +62,21 @@ turn-at-requires c κs = tt
 opposes-requires : tie.Need-opposes-requires Inv-loop μ-loop
 opposes-requires c κs = tt
 
-returns-2 : tie.Need-returns-2 Inv-loop μ-loop
-returns-2 c =
+returns : tie.Need-returns Inv-loop μ-loop
+returns c =
     let e = c .before .before .before in
-    let d = e .before .before .before in
+    let d = e .before .before in
     let q = d .before .before in
     let j = q .before .before .before in
     let l = j .before .before .loop in
+    let h = j .before .loop-test .taken in
     let fs = now (j .before .before .before .before .args .points) in
-    on-opposed plane (pointsIn fs) _ (length-pointsIn fs) (l .t) (l .i) _ (j .before .loop-test .taken) (j .around .ensures .0) _ (l .inv .4)
-    _ _ (read fs _ _ (j .before .loop-test .taken) (q .before .before .point-at .ensures)) (read fs _ _ (j .around .ensures .1) (q .before .point-at2 .ensures))
-    (sym (q .same .ensures) ∙ not-true _ (d .before .if1 .taken))
-    _ (d .around2 .ensures .0) _ (e .before .before .next-other .ensures) (sym (e .before .same2 .ensures) ∙ e .if2 .left)
-    _ (c .before .before .turn-at .ensures .0) (sym (c .before .opposes .ensures) ∙ c .if3 .taken)
+    let a = read fs _ _ h (q .before .before .point-at .ensures) in
+    let b = read fs _ _ (j .around .ensures .1) (q .before .point-at2 .ensures) in
+    on-opposed plane (pointsIn fs) _ (length-pointsIn fs) (l .t) (l .i) _ h (j .around .ensures .0) _ (l .inv .4) _ _ a b
+    (omega arith) (sym (q .same .ensures) ∙ not-true _ (d .before .if1 .taken))
+    _ (d .around2 .ensures .0) _ (e .before .next-other .ensures .0) _ (read fs _ _ (e .before .next-other .ensures .1) (e .point-at3 .ensures))
+    _ (c .before .before .turn-at .ensures .0) (sym (c .before .opposes .ensures) ∙ c .if2 .taken)
 
 count-requires : tie.Need-count-requires Inv-loop μ-loop
 count-requires c κs = omega arith
@@ -108,16 +98,16 @@ loop-again c =
     let b = read fs _ _ (j .around .ensures .1) (q .before .point-at2 .ensures) in
     ⊎-elim
     (λ w.
-    let u = w .9 ∙ w .8 .ensures in
-    let most = counted-most (l .t) _ (w .5 .result) u (w .5 .ensures .1) in (
+    let u = w .8 ∙ w .7 .ensures in
+    let most = counted-most (l .t) _ (w .4 .result) u (w .4 .ensures .1) in (
       omega arith,
       refl,
       omega (arith, most .0, l .inv .2),
       omega (arith, most .1, l .inv .3),
       on-counted plane (pointsIn fs) _ (length-pointsIn fs) (l .t) (l .i) _ h (j .around .ensures .0) _ (l .inv .4) _ _ a b
-          (sym (q .same .ensures) ∙ not-true _ (w .0 .taken))
-          _ (w .1 .ensures .0) _ (w .2 .ensures) (sym (w .3 .ensures) ∙ w .4 .left)
-          _ (w .5 .ensures .0) _ (sym (w .6 .ensures) ∙ w .7 .left) u,
+          (omega (arith, j .before .before .before .before .pre .0)) (sym (q .same .ensures) ∙ not-true _ (w .0 .taken))
+          _ (w .1 .ensures .0) _ (w .2 .ensures .0) _ (read fs _ _ (w .2 .ensures .1) (w .3 .ensures))
+          _ (w .4 .ensures .0) _ (sym (w .5 .ensures) ∙ w .6 .left) u,
     ))
     (λ w. (
       omega arith,
@@ -133,8 +123,8 @@ loop-again c =
 end-requires : tie.Need-end-requires Inv-loop μ-loop
 end-requires c κs = tt
 
-returns-3 : tie.Need-returns-3 Inv-loop μ-loop
-returns-3 c =
+returns-2 : tie.Need-returns-2 Inv-loop μ-loop
+returns-2 c =
     let l = c .before .before .loop in
     let fs = now (c .before .before .before .before .args .points) in
     c .end .ensures ∙ on-end plane (pointsIn fs) _ (length-pointsIn fs) (l .t) (l .i) (c .before .loop-test .left) _ (l .inv .4)
@@ -154,14 +144,13 @@ walk-spec =
     add-around-2
     around-requires-2
     next-other-requires
-    same-requires-2
-    returns
+    point-at-requires-3
     turn-at-requires
     opposes-requires
-    returns-2
+    returns
     count-requires
     add-i
     loop-less
     loop-again
     end-requires
-    returns-3)
+    returns-2)
