@@ -50,8 +50,7 @@ fn few_points() {
     polygon(b"three floats", &odd);
 }
 
-// Repeats at the start, at the end and in between, and lists of nothing but repeats.
-fn repeats() {
+fn repeats_at_the_ends() {
     let start = [
         0.0f32,
         0.0,
@@ -82,6 +81,9 @@ fn repeats() {
         4.0,
     ];
     polygon(b"square, repeats at the end", &end);
+}
+
+fn repeats_elsewhere() {
     let closed = [
         0.0f32,
         0.0,
@@ -114,6 +116,10 @@ fn repeats() {
         4.0,
     ];
     polygon(b"dart, repeats at the dent", &dented);
+}
+
+// At most two different points, and no turn.
+fn nothing_but_repeats() {
     let equal = [3.0f32, 5.0, 3.0, 5.0, 3.0, 5.0, 3.0, 5.0];
     polygon(b"four times one point", &equal);
     let zeros = [0.0f32, -0.0, -0.0, 0.0, 0.0, 0.0, -0.0, -0.0];
@@ -394,7 +400,9 @@ fn zeros() {
 fn main() {
     examples();
     few_points();
-    repeats();
+    repeats_at_the_ends();
+    repeats_elsewhere();
+    nothing_but_repeats();
     stars();
     not_finite();
     up_to_the_limit();
