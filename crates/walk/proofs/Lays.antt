@@ -1,11 +1,12 @@
 -- Laying events step by step lays the segments that they draw, and laying goes on behind what is laid. Assumes nothing.
-use mathlib.Core.Path.{_≡_, sym, _∙_, subst}
+use mathlib.Core.Path.{_≡_, refl, sym, _∙_, ap, subst}
 use Prim.Native.Nat.{ℕ, suc, _+_, _*_, _<_}
 use native.Mathlib.Omega.{arith}
 use native.Mathlib.Nat.{add-zero}
 use mathlib.Core.Bool.{Bool, true, false, true≢false}
 use mathlib.Core.List.{List, [], _∷_, _++_}
 use lib.ListN.{length, length-append}
+use lib.Ieee.{Float}
 use lib.Seq.{sets}
 use Rattle.vec2.proofs.Points.{flat-append, length-flat, sets-append}
 use Rattle.path.proofs.Encoded.{bytesOf-append, allPoints-append, length-bytes}
@@ -16,6 +17,8 @@ use Rattle.path.specs.Segment.{bytesOf, allPoints}
 use Rattle.walk.specs.declared.Event.{Event}
 use Rattle.walk.specs.declared.Event.the-variants.{Nothing, Cut, Reach, Pass}
 use Rattle.walk.specs.Drawn.{downTo, drawn}
+use Rattle.walk.specs.declared.Pos.{Pos}
+use Rattle.walk.specs.Walk.{walkPolyline, walkAll}
 use Rattle.walk.specs.Lay.{Out, Room, Sheet, laid, layVerb, stroke, layEvent, layAll}
 
 -- ---- one verb after the other
@@ -60,6 +63,26 @@ laid-append o ss ts =
     rw (p, allPoints-append, flat-append, sets-append) in
     cc
 
+-- ---- every verb that is drawn has one point
+
+downTo-points : (d : Bool) (a z : Vec2) (ss : List Segment) → length (allPoints ss) ≡ length ss → length (allPoints (downTo d a z ++ ss)) ≡ length (downTo d a z ++ ss)
+downTo-points true a z ss e = ap suc e
+downTo-points false a z ss e = ap (λ (n : ℕ). suc (suc n)) e
+
+drawn-points : (d : Bool) (es : List Event) → length (allPoints (drawn d es)) ≡ length (drawn d es)
+drawn-points d [] = refl
+drawn-points d (Nothing ∷ es) = drawn-points d es
+drawn-points d (Cut a z ∷ es) = downTo-points d a z (drawn false es) (drawn-points false es)
+drawn-points d (Reach a c ∷ es) = downTo-points d a c (drawn true es) (drawn-points true es)
+drawn-points d (Pass c ∷ es) = drawn-points false es
+
+pub walk-points : (cs : List Float) (start : Pos) (ps : List (List Vec2)) → length (allPoints (walkAll cs start ps)) ≡ length (walkAll cs start ps)
+walk-points cs start [] = refl
+walk-points cs start (p ∷ ps) =
+    let a = drawn false (walkPolyline cs start p) in
+    let b = walkAll cs start ps in
+    rw (allPoints-append, length-append, length-append, drawn-points, walk-points cs start ps)
+
 -- ---- room
 
 module _ (n m : ℕ) (o : Out) (a z : Vec2) where
@@ -72,7 +95,7 @@ module _ (n m : ℕ) (o : Out) (a z : Vec2) where
   room-two false h r = (omega (arith, r .0), omega (arith, r .1))
 
 -- what is laid first has room where all has
-room-front : (n m : ℕ) (o : Out) (ss : List Segment) → Room n m (laid o ss) → Room n m o
+pub room-front : (n m : ℕ) (o : Out) (ss : List Segment) → Room n m (laid o ss) → Room n m o
 room-front n m o ss r = (omega (arith, r .0), omega (arith, r .1))
 
 pub room-start : (n m : ℕ) (s : Sheet) (es : List Event) → Room n m (layAll s es .page) → Room n m (s .page)

@@ -6,4 +6,3 @@ pub mod Legs
 pub mod Counts
 pub mod Lines
 pub mod Runs
-pub mod Examples

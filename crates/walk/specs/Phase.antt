@@ -1,10 +1,10 @@
 -- Where in the cycle a walk begins (`walk`, dash.rs). Definitions only.
 use Prim.Native.Nat.{ℕ, _+_, _%_}
-use mathlib.Core.Bool.{Bool, true, false, not, _&&_, cond}
+use mathlib.Core.Bool.{Bool, not, _&&_}
 use mathlib.Core.List.{List}
 use lib.ListN.{getD, length}
 use lib.Dec.{eqb}
-use lib.Ieee.{Float, nan, binary32, lt, le}
+use lib.Ieee.{Float, nan, le}
 use Rattle.float.specs.Small.{maximum, remEuclid}
 use Rattle.walk.specs.Loop.{traced}
 use Rattle.float.specs.Arith.{minus, f0}

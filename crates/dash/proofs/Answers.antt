@@ -1,0 +1,115 @@
+-- How dashing's outcome follows from its tests. Assumes nothing.
+use mathlib.Core.Path.{_≡_, refl, sym, _∙_, ap}
+use Prim.Native.Nat.{ℕ, zero, suc, _/_, _%_, _≤_, _<_}
+use native.Mathlib.Omega.{arith}
+use mathlib.Core.Bool.{Bool, true, false, cond, _&&_, true≢false}
+use mathlib.Core.List.{List, [], _∷_, _++_}
+use lib.ListN.{length}
+use lib.Seq.{sets}
+use lib.Dec.{ltb, eqb}
+use lib.Ieee.{Float}
+use borrow.Author.Tests.{ltb-false, eqb-true}
+use Rattle.float.specs.Arith.{f0}
+use Rattle.vec2.specs.declared.Vec2.{Vec2}
+use Rattle.vec2.specs.Points.{flat, pointsIn}
+use Rattle.vec2.proofs.Points.{length-flat, pointsIn-flat}
+use Rattle.path.specs.declared.Segment.{Segment}
+use Rattle.path.specs.declared.FillRule.{FillRule}
+use Rattle.path.specs.Segment.{segments}
+use Rattle.path.specs.Check.{badPath}
+use Rattle.flatten.specs.Flatten.{pointsOut, endsOut}
+use Rattle.flatten.specs.Polylines.{polylines}
+use Rattle.pattern.specs.Cycle.{some, usable, cycleOf, sumFrom, cuts}
+use Rattle.walk.specs.declared.Pos.{Pos}
+use Rattle.walk.specs.Phase.{startOf}
+use Rattle.walk.specs.Walk.{walkAll}
+use Rattle.dash.specs.declared.Dashed.{Dashed}
+use Rattle.dash.specs.declared.Dashed.the-variants.{Whole, Refused}
+use Rattle.dash.specs.Dash.{even, thenEight, refusal, dashes, scratchFits, outFits, CutOutcome, cutOutcome, outIf, outOutcome, Outcome, outcome, answered, answering, dashing}
+
+-- ---- refusals
+
+pub by-path : (n k : ℕ) → (n ≡ 0 → ⊥) → n ≡ thenEight n k
+by-path zero k h = absurd (h refl)
+by-path (suc n) k h = refl
+
+module _ (verbs : List ℕ) (points : List Float) (rule : FillRule) (intervals : List Float) (phase tolerance : Float) (scratch : List Float) (ends : List ℕ) (us : List ℕ) (gs : List Float) where
+  abbrev ps : List Vec2
+  ps = pointsOut tolerance (segments verbs points)
+
+  abbrev es : List ℕ
+  es = endsOut tolerance (segments verbs points)
+
+  abbrev ss : List Segment
+  ss = dashes intervals phase ps es
+
+  -- ---- the scratch
+
+  pub scratch-full : scratchFits ps es scratch ends ≡ false → (s' : List Float) (e' : List ℕ) → s' ≡ scratch → e' ≡ ends
+      → outcome (Refused 3) s' e' us gs ≡ answering 0 true verbs points rule intervals phase tolerance scratch ends us gs
+  scratch-full h s' e' p q = rw (h, p, q)
+
+  -- what the second half answers, with what the scratch holds
+  over : (b : Bool) (r : Dashed) (s' : List Float) (e' : List ℕ) (vs' : List ℕ) (fs' : List Float) → s' ≡ sets scratch 0 (flat ps) → e' ≡ sets ends 0 es
+      → cutOutcome r vs' fs' ≡ outIf b ss (length ps) (length es) rule us gs → outcome r s' e' vs' fs' ≡ answered 0 true true b ps es ss rule scratch ends us gs
+  over true r s' e' vs' fs' p q h = rw (p, q) (ap (λ (o : CutOutcome). outcome (o .reply) (sets scratch 0 (flat ps)) (sets ends 0 es) (o .verbs) (o .floats)) h)
+  over false r s' e' vs' fs' p q h = rw (p, q) (ap (λ (o : CutOutcome). outcome (o .reply) (sets scratch 0 (flat ps)) (sets ends 0 es) (o .verbs) (o .floats)) h)
+
+  pub scratch-kept : scratchFits ps es scratch ends ≡ true → (s' : List Float) (e' : List ℕ) → s' ≡ sets scratch 0 (flat ps) → e' ≡ sets ends 0 es
+      → (l : List Float) (k : List ℕ) → l ≡ flat ps → k ≡ es → (cs : List Float) → cs ≡ cycleOf intervals → (period : Float) → period ≡ sumFrom f0 cs → (start : Pos) → start ≡ startOf cs phase period
+      → (r : Dashed) (vs' : List ℕ) (fs' : List Float) → cutOutcome r vs' fs' ≡ outOutcome (walkAll cs start (polylines 0 (pointsIn l) k)) (length l / 2) (length k) rule us gs
+      → outcome r s' e' vs' fs' ≡ answering 0 true verbs points rule intervals phase tolerance scratch ends us gs
+  scratch-kept f s' e' p q l k lp kp cs cp period pp start sp r vs' fs' h =
+      let n : length l / 2 ≡ length ps = omega (arith, ap length lp, length-flat ps) in
+      let m : pointsIn l ≡ ps = ap pointsIn lp ∙ pointsIn-flat ps in
+      let d : walkAll cs start (polylines 0 (pointsIn l) k) ≡ ss = rw (m, kp, sp, pp, cp) in
+      rw f (over (outFits ss us gs) r s' e' vs' fs' p q (h ∙ rw (d, n, kp)))
+
+  -- ---- the whole call
+
+  abbrev number : ℕ
+  number = refusal verbs points intervals (length scratch) (length gs)
+
+  pub is-refused : (n : ℕ) → n ≡ number → (n ≡ 0 → ⊥) → outcome (Refused n) scratch ends us gs ≡ dashing verbs points rule intervals phase tolerance scratch ends us gs
+  is-refused zero h z = absurd (z refl)
+  is-refused (suc n) h z = rw (← h)
+
+  pub whole : 0 ≡ number → cuts intervals phase tolerance ≡ false → outcome Whole scratch ends us gs ≡ dashing verbs points rule intervals phase tolerance scratch ends us gs
+  whole h k = rw (← h, k)
+
+  pub is-cut : 0 ≡ number → cuts intervals phase tolerance ≡ true → (o : Outcome)
+      → o ≡ answering 0 true verbs points rule intervals phase tolerance scratch ends us gs → o ≡ dashing verbs points rule intervals phase tolerance scratch ends us gs
+  is-cut h k o q = rw (← h, k) q
+
+  eight : (n k : ℕ) → 0 ≡ thenEight n k → (n ≡ 0) × (k ≤ 64)
+  eight zero k h = (refl, go (ltb 64 k) refl h)
+    where
+      go : (b : Bool) → ltb 64 k ≡ b → _≡_ {A = ℕ} 0 (cond b 8 0) → k ≤ 64
+      go true e h = absurd (omega arith)
+      go false e h = ltb-false 64 k e
+  eight (suc n) k h = absurd (omega arith)
+
+  -- what is known where nothing is refused
+  pub none-refused : 0 ≡ number → (length scratch % 2 ≡ 0) × (badPath verbs points ≡ 0) × (length intervals ≤ 64)
+  none-refused h = go (even (length points)) (even (length scratch)) (even (length gs)) refl h
+    where
+      go : (a b c : Bool) → even (length scratch) ≡ b → _≡_ {A = ℕ} 0 (cond (a && (b && c)) (thenEight (badPath verbs points) (length intervals)) 1)
+          → (length scratch % 2 ≡ 0) × (badPath verbs points ≡ 0) × (length intervals ≤ 64)
+      go true true true e h = let z = eight (badPath verbs points) (length intervals) h in (eqb-true _ _ e, z .0, z .1)
+      go true true false e h = absurd (omega arith)
+      go true false c e h = absurd (omega arith)
+      go false b c e h = absurd (omega arith)
+
+-- ---- a pattern that is cut has an interval
+
+double-some : (xs : List Float) (b : Bool) → some xs ≡ true → 0 < length (cond b xs (xs ++ xs))
+double-some [] b h = absurd (true≢false (sym h))
+double-some (x ∷ xs) true h = omega arith
+double-some (x ∷ xs) false h = omega arith
+
+first : (a b : Bool) → a && b ≡ true → a ≡ true
+first true b h = refl
+first false b h = h
+
+pub cuts-some : (xs : List Float) (phase tolerance : Float) → cuts xs phase tolerance ≡ true → 0 < length (cycleOf xs)
+cuts-some xs phase tolerance h = double-some xs (eqb (length xs % 2) 0) (first (some xs) _ (first (usable xs phase) _ h))

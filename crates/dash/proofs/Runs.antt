@@ -1,0 +1,83 @@
+-- The filled part of the dash buffers is runs and nothing else, from the equation of `dash_path` alone. Assumes nothing.
+use mathlib.Core.Path.{_≡_, refl, sym, _∙_, ap, subst}
+use Prim.Native.Nat.{ℕ, zero, suc, _*_, _/_, _≤_}
+use native.Mathlib.Omega.{arith}
+use mathlib.Core.Bool.{Bool, true, false}
+use mathlib.Core.List.{List}
+use lib.ListN.{length, take}
+use lib.Seq.{sets}
+use lib.Dec.{leb}
+use lib.Ieee.{Float}
+use borrow.Author.Tests.{leb-true}
+use Rattle.vec2.specs.declared.Vec2.{Vec2}
+use Rattle.vec2.specs.Points.{flat, pointsIn}
+use Rattle.vec2.proofs.Points.{length-flat, pointsIn-flat}
+use Rattle.path.specs.declared.Segment.{Segment}
+use Rattle.path.specs.declared.FillRule.{FillRule}
+use Rattle.path.specs.Segment.{segments, bytesOf, allPoints}
+use Rattle.path.proofs.Encoded.{length-bytes}
+use Rattle.flatten.specs.Flatten.{pointsOut, endsOut}
+use Rattle.flatten.specs.Polylines.{polylines}
+use Rattle.pattern.specs.Cycle.{cycleOf, period, cuts}
+use Rattle.walk.specs.Phase.{startOf}
+use Rattle.walk.proofs.Runs.{all-runs}
+use Rattle.dash.specs.declared.Outline.{Outline}
+use Rattle.dash.specs.declared.Dashed.{Dashed}
+use Rattle.dash.specs.declared.Dashed.the-variants.{Cut}
+use Rattle.dash.specs.Dash.{refusal, dashes, scratchFits, outFits, outlineFor, Outcome, outcome, answered, dashing}
+use Rattle.dash.specs.Runs.{Laid}
+use Rattle.dash.proofs.Caps.{both, fits}
+use Rattle.dash.proofs.Scratch.{front}
+
+module _ (path : List Segment) (intervals : List Float) (phase tolerance : Float) (rule : FillRule) (scratch : List Float) (ends vs : List ℕ) (fs : List Float) (o : Outline) where
+  abbrev ps : List Vec2
+  ps = pointsOut tolerance path
+
+  abbrev es : List ℕ
+  es = endsOut tolerance path
+
+  abbrev ss : List Segment
+  ss = dashes intervals phase ps es
+
+  -- the outcome of a cut
+  abbrev whole : Dashed → Outcome
+  whole r = outcome r (sets scratch 0 (flat ps)) (sets ends 0 es) (sets vs 0 (bytesOf ss)) (sets fs 0 (flat (allPoints ss)))
+
+  laid : scratchFits ps es scratch ends ≡ true → outFits ss vs fs ≡ true → outlineFor ss (length ps) (length es) rule ≡ o → Laid path intervals phase tolerance rule o (whole (Cut o))
+  laid f g q =
+      let a = both (leb (length ps) (length scratch / 2)) (leb (length es) (length ends)) f in
+      let y : length ps ≤ length scratch / 2 = leb-true _ _ (a .0) in
+      let b = fits (length ss) (length (allPoints ss)) (length vs) (length fs) g in
+      let np : o .scratch ≡ length ps = sym (ap (λ (z : Outline). z .scratch) q) in
+      let no : o .points ≡ length (allPoints ss) = sym (ap (λ (z : Outline). z .points) q) in
+      let nv : o .verbs ≡ length ss = sym (ap (λ (z : Outline). z .verbs) q) in
+      let kept : pointsIn (take (2 * o .scratch) (sets scratch 0 (flat ps))) ≡ ps =
+      ap pointsIn (front scratch (flat ps) (2 * o .scratch) (omega (arith, np, length-flat ps)) (omega (arith, y, length-flat ps))) ∙ pointsIn-flat ps in
+      let ended : take (o .polylines) (sets ends 0 es) ≡ es = front ends es (o .polylines) (sym (ap (λ (z : Outline). z .polylines) q)) (leb-true _ _ (a .1)) in
+      record {
+        segments = ss;
+        verbs = front vs (bytesOf ss) (o .verbs) (omega (arith, nv, length-bytes ss)) (omega (arith, b .verb, length-bytes ss));
+        points = front fs (flat (allPoints ss)) (2 * o .points) (omega (arith, no, length-flat (allPoints ss))) (omega (arith, b .point, length-flat (allPoints ss)));
+        kept = kept;
+        ended = ended;
+        runs = rw (kept, ended) (all-runs (cycleOf intervals) (startOf (cycleOf intervals) phase (period intervals)) (polylines 0 ps es));
+        same-rule = sym (ap (λ (z : Outline). z .rule) q);
+      }
+
+  -- only one of the answers is a Cut
+  answers : (n : ℕ) (c s u : Bool) → scratchFits ps es scratch ends ≡ s → outFits ss vs fs ≡ u → answered n c s u ps es ss rule scratch ends vs fs .reply ≡ Cut o
+      → Laid path intervals phase tolerance rule o (answered n c s u ps es ss rule scratch ends vs fs)
+  answers (suc n) c s u f g h = let z : _≡_ {A = ℕ} 0 1 = cc in absurd (omega arith)
+  answers zero false s u f g h = let z : _≡_ {A = ℕ} 0 1 = cc in absurd (omega arith)
+  answers zero true false u f g h = let z : _≡_ {A = ℕ} 0 1 = cc in absurd (omega arith)
+  answers zero true true false f g h = let z : _≡_ {A = ℕ} 0 1 = cc in absurd (omega arith)
+  answers zero true true true f g h =
+      let q : outlineFor ss (length ps) (length es) rule ≡ o = cc in
+      subst (λ (z : Dashed). Laid path intervals phase tolerance rule o (whole z)) (sym h) (laid f g q)
+
+-- what `dash_path` ensures of its outcome b
+pub dash-runs : (verbs : List ℕ) (points : List Float) (rule : FillRule) (intervals : List Float) (phase tolerance : Float) (scratch : List Float) (ends vs : List ℕ) (fs : List Float) (b : Outcome) (o : Outline)
+    → b ≡ dashing verbs points rule intervals phase tolerance scratch ends vs fs → b .reply ≡ Cut o → Laid (segments verbs points) intervals phase tolerance rule o b
+dash-runs verbs points rule intervals phase tolerance scratch ends vs fs b o e h =
+    subst (λ (z : Outcome). Laid (segments verbs points) intervals phase tolerance rule o z) (sym e)
+    (answers (segments verbs points) intervals phase tolerance rule scratch ends vs fs o (refusal verbs points intervals (length scratch) (length fs)) (cuts intervals phase tolerance) _ _ refl refl (sym (ap (λ (z : Outcome). z .reply) e) ∙ h))

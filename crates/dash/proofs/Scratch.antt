@@ -1,0 +1,132 @@
+-- What flattening leaves in the scratch, and that its ends are in order. Assumes nothing.
+use mathlib.Core.Path.{_≡_, refl, sym, _∙_, ap}
+use Prim.Native.Nat.{ℕ, _+_, _*_, _/_, _%_, _≤_}
+use native.Mathlib.Omega.{arith}
+use native.Mathlib.Nat.{zero-add}
+use mathlib.Core.Bool.{Bool, true, false, cond, not, _&&_, _||_}
+use mathlib.Core.List.{List, [], _∷_, _++_}
+use lib.ListN.{length, take, length-append}
+use lib.Seq.{sets, length-sets}
+use lib.Dec.{leb, ltb}
+use lib.Ieee.{Float}
+use borrow.Author.Tests.{le-ltb, lt-ltb, leb-true, leb-false, ne-eqb}
+use Rattle.vec2.specs.declared.Vec2.{Vec2}
+use Rattle.vec2.specs.Points.{flat}
+use Rattle.path.specs.declared.Segment.{Segment}
+use Rattle.path.specs.Segment.{segments}
+use Rattle.path.specs.Check.{badPath}
+use Rattle.flatten.specs.declared.Spot.{Spot}
+use Rattle.flatten.specs.declared.Flattened.{Flattened}
+use Rattle.flatten.specs.Flatten.{nowhere, after, stops, onlyIf, writes, written, endings, pointsOut, endsOut, flatRefusal, replied, flatten, Outcome, outcome}
+use Rattle.pattern.proofs.Cycles.{take-stored}
+use Rattle.vec2.proofs.Points.{length-flat}
+use Rattle.dash.proofs.Caps.{both}
+use Rattle.dash.specs.Ends.{Ordered}
+use Rattle.dash.specs.Dash.{scratchFits}
+
+-- ---- the ends
+
+module _ (most : ℕ) where
+  -- one end, or none, before the others
+  end-if : (b : Bool) (n from : ℕ) (es : List ℕ) → from ≤ n → 2 * n ≤ most → Ordered most from es → Ordered most n es → Ordered most from (onlyIf b n ++ es)
+  end-if true n from es h l o q = (h, l, q)
+  end-if false n from es h l o q = o
+
+  end-last : (b : Bool) (n from : ℕ) → from ≤ n → 2 * n ≤ most → Ordered most from (onlyIf b n)
+  end-last true n from h l = (h, l, tt)
+  end-last false n from h l = tt
+
+  ends-from : (tol : Float) (ss : List Segment) (n from : ℕ) (w : Spot) → from ≤ n → 2 * (n + length (written tol w ss)) ≤ most → Ordered most from (endings tol n w ss)
+  unfolding endings written
+  ends-from tol [] n from w h l = end-last (w .drawn) n from h (omega (arith, l))
+  ends-from tol (s ∷ ss) n from w h l =
+      let k = n + length (writes tol w s) in
+      let m : 2 * (k + length (written tol (after w s) ss)) ≤ most = omega (arith, l, length-append (writes tol w s) (written tol (after w s) ss)) in
+      end-if (stops w s) n from (endings tol k (after w s) ss) h (omega (arith, l)) (ends-from tol ss k from (after w s) (omega (arith, h)) m) (ends-from tol ss k n (after w s) (omega arith) m)
+
+pub ends-ordered : (tol : Float) (ss : List Segment) → Ordered (2 * length (pointsOut tol ss)) 0 (endsOut tol ss)
+ends-ordered tol ss = ends-from (2 * length (pointsOut tol ss)) tol ss 0 0 nowhere (omega arith) (omega arith)
+
+-- ---- the flattening's answer, where nothing is refused before it
+
+-- the front of a buffer that values are stored in
+pub front : {A : Type 0} (l vs : List A) (n : ℕ) → n ≡ length vs → length vs ≤ length l → take n (sets l 0 vs) ≡ vs
+front l vs n e h = ap (λ (k : ℕ). take k (sets l 0 vs)) (e ∙ sym (zero-add (length vs))) ∙ take-stored l 0 vs (omega (arith, h))
+
+over-under : (a b : ℕ) → ltb a b ≡ not (leb b a)
+over-under a b = go (leb b a) refl
+  where
+    go : (d : Bool) → leb b a ≡ d → ltb a b ≡ not d
+    go true e = le-ltb a b (leb-true b a e)
+    go false e = lt-ltb a b (leb-false b a e)
+
+or-and : (a b : Bool) (x y : ℕ) → cond (not a || not b) x y ≡ cond (a && b) y x
+or-and true true x y = refl
+or-and true false x y = refl
+or-and false b x y = refl
+
+module _ (vs : List ℕ) (fs : List Float) (tol : Float) (scratch : List Float) (ends : List ℕ) (even : length scratch % 2 ≡ 0) (good : badPath vs fs ≡ 0) where
+  abbrev path : List Segment
+  path = segments vs fs
+
+  abbrev ps : List Vec2
+  ps = pointsOut tol path
+
+  abbrev es : List ℕ
+  es = endsOut tol path
+
+  number : flatRefusal vs fs tol scratch ends ≡ cond (scratchFits ps es scratch ends) 0 3
+  unfolding flatRefusal
+  number = rw (ne-eqb (length scratch % 2) 1 (λ e. omega (arith, e, even)), good, over-under (length scratch / 2) (length ps), over-under (length ends) (length es))
+      (or-and (leb (length ps) (length scratch / 2)) (leb (length es) (length ends)) 3 0)
+
+  reply : (o : Outcome) → o ≡ flatten vs fs tol scratch ends → o ≡ replied (cond (scratchFits ps es scratch ends) 0 3) tol path scratch ends
+  unfolding flatten
+  reply o e = e ∙ ap (λ (n : ℕ). replied n tol path scratch ends) number
+
+  -- the scratch is too small, and is as it was
+  pub record Full (s' : List Float) (e' : List ℕ) : Type 0 where
+    pub misfit : scratchFits ps es scratch ends ≡ false
+    pub scratch-is : s' ≡ scratch
+    pub ends-are : e' ≡ ends
+
+  -- or it keeps the polylines
+  pub record Kept (r : Flattened) (s' : List Float) (e' : List ℕ) : Type 0 where
+    pub fit : scratchFits ps es scratch ends ≡ true
+    pub scratch-is : s' ≡ sets scratch 0 (flat ps)
+    pub ends-are : e' ≡ sets ends 0 es
+    pub room : 2 * r .points ≤ length s'
+    pub rooms : r .polylines ≤ length e'
+    pub points : take (2 * r .points) s' ≡ flat ps
+    pub polylines : take (r .polylines) e' ≡ es
+
+  module _ (r : Flattened) (s' : List Float) (e' : List ℕ) (e : outcome r s' e' ≡ flatten vs fs tol scratch ends) where
+    pub full : (r .refused ≡ 0 → ⊥) → Full s' e'
+    full h = go (scratchFits ps es scratch ends) refl (reply _ e)
+      where
+        go : (b : Bool) → scratchFits ps es scratch ends ≡ b → outcome r s' e' ≡ replied (cond b 0 3) tol path scratch ends → Full s' e'
+        go true q z = absurd (h (ap (λ (o : Outcome). o .answer .refused) z))
+        go false q z = record { misfit = q; scratch-is = ap (λ (o : Outcome). o .floats) z; ends-are = ap (λ (o : Outcome). o .ends) z }
+
+    pub kept : r .refused ≡ 0 → Kept r s' e'
+    kept h = go (scratchFits ps es scratch ends) refl (reply _ e)
+      where
+        go : (b : Bool) → scratchFits ps es scratch ends ≡ b → outcome r s' e' ≡ replied (cond b 0 3) tol path scratch ends → Kept r s' e'
+        go true q z =
+            let f = both (leb (length ps) (length scratch / 2)) (leb (length es) (length ends)) q in
+            let l : 2 * length ps ≤ length scratch = omega (arith, leb-true (length ps) (length scratch / 2) (f .0)) in
+            let k : length es ≤ length ends = leb-true (length es) (length ends) (f .1) in
+            let n : r .points ≡ length ps = ap (λ (o : Outcome). o .answer .points) z in
+            let m : r .polylines ≡ length es = ap (λ (o : Outcome). o .answer .polylines) z in
+            let s : s' ≡ sets scratch 0 (flat ps) = ap (λ (o : Outcome). o .floats) z in
+            let t : e' ≡ sets ends 0 es = ap (λ (o : Outcome). o .ends) z in
+            record {
+              fit = q;
+              scratch-is = s;
+              ends-are = t;
+              room = omega (arith, l, n, ap length s, length-sets scratch 0 (flat ps));
+              rooms = omega (arith, k, m, ap length t, length-sets ends 0 es);
+              points = ap (take (2 * r .points)) s ∙ front scratch (flat ps) (2 * r .points) (omega (arith, n, length-flat ps)) (omega (arith, l, length-flat ps));
+              polylines = ap (take (r .polylines)) t ∙ front ends es (r .polylines) m k;
+            }
+        go false q z = absurd (omega (arith, h, ap (λ (o : Outcome). o .answer .refused) z))

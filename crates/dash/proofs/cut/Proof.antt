@@ -1,0 +1,116 @@
+-- `cut` meets its contract. Assumes nothing.
+use mathlib.Core.Path.{_≡_, sym, _∙_, ap}
+use mathlib.Core.List.{List}
+use Prim.Native.Nat.{ℕ, _*_}
+use native.Mathlib.Omega.{arith}
+use denote.Ref.{now}
+use lib.ListN.{length, take}
+use lib.Seq.{length-take-le}
+use Rattle.vec2.proofs.Points.{length-flat}
+use Rattle.path.specs.Segment.{segments}
+use Rattle.flatten.specs.Flatten.{pointsOut}
+use Rattle.dash.specs.Ends.{Ordered}
+use Rattle.dash.proofs.Answers.{scratch-full, scratch-kept}
+use Rattle.dash.proofs.Scratch.{Kept, full, kept, ends-ordered}
+use borrow.Author.Needs.{needs}
+use Rattle.dash.proofs.cut.Statement.{statement}
+use Rattle.dash.proofs.cut.Tie as tie
+
+-- what the flattening leaves where it is not refused
+left : (c : tie.Else1) → let a = c .before .before .before .before .before .before .before .before .before .before .before .before .before .before .before .before .before .args in let f = c .before .before .before .before .before .before .flatten in
+    Kept (now (a .verbs)) (now (a .points)) (a .tolerance) (now (a .scratch)) (now (a .ends)) (c .before .before .before .before .before .before .before .before .before .before .before .before .before .before .before .before .before .pre .0) (c .before .before .before .before .before .before .before .before .before .before .before .before .before .before .before .before .before .pre .1) (f .result) (f .last .1 .1 .1 .0) (f .last .1 .1 .1 .1 .0)
+left c =
+    let a = c .before .before .before .before .before .before .before .before .before .before .before .before .before .before .before .before .before .args in
+    let f = c .before .before .before .before .before .before .flatten in
+    kept (now (a .verbs)) (now (a .points)) (a .tolerance) (now (a .scratch)) (now (a .ends)) (c .before .before .before .before .before .before .before .before .before .before .before .before .before .before .before .before .before .pre .0) (c .before .before .before .before .before .before .before .before .before .before .before .before .before .before .before .before .before .pre .1) (f .result) _ _ (f .ensures) (c .if1 .left)
+
+ordered : {n m : ℕ} {l k : List ℕ} → n ≡ m → l ≡ k → Ordered m 0 k → Ordered n 0 l
+ordered p q o = rw (p, q) o
+
+flatten-requires : tie.Need-flatten-requires
+flatten-requires c κs = search needs
+
+same-length : tie.Need-same-length
+same-length c = search needs
+
+same-length-2 : tie.Need-same-length-2
+same-length-2 c = search needs
+
+returns : tie.Need-returns
+returns c =
+    let a = c .before .before .before .before .before .before .before .before .before .before .before .before .before .before .before .before .before .args in
+    let f = c .before .before .before .before .before .before .flatten in
+    let u = full (now (a .verbs)) (now (a .points)) (a .tolerance) (now (a .scratch)) (now (a .ends)) (c .before .before .before .before .before .before .before .before .before .before .before .before .before .before .before .before .before .pre .0) (c .before .before .before .before .before .before .before .before .before .before .before .before .before .before .before .before .before .pre .1) (f .result) _ _ (f .ensures) (c .if1 .taken) in
+    scratch-full (now (a .verbs)) (now (a .points)) (a .rule) (now (a .intervals)) (a .phase) (a .tolerance) (now (a .scratch)) (now (a .ends)) (now (a .vs)) (now (a .fs)) (u .misfit) _ _ (u .scratch-is) (u .ends-are)
+
+sum-of-requires : tie.Need-sum-of-requires
+sum-of-requires c κs = search needs
+
+start-of-requires : tie.Need-start-of-requires
+start-of-requires c κs = search needs
+
+mul-n : tie.Need-mul-n
+mul-n c = omega (arith, left (c .before .before .before) .room, c .before .before .before .before .before .before .before .before .before .flatten .kept, c .before .before .before .before .before .before .before .before .before .before .before .before .before .before .before .before .before .before .before .before .good)
+
+slice-reshare-prefix-cut-all : tie.Need-slice-reshare-prefix-cut-all
+slice-reshare-prefix-cut-all c = left (c .before .before .before) .room
+
+slice-aggregate-cut-all : tie.Need-slice-aggregate-cut-all
+slice-aggregate-cut-all c = sym (length-take-le _ _ (left (c .before .before .before .before) .room))
+
+slice-reshare-prefix-cut-all-2 : tie.Need-slice-reshare-prefix-cut-all-2
+slice-reshare-prefix-cut-all-2 c = left (c .before .before .before .before) .rooms
+
+slice-aggregate-cut-all-2 : tie.Need-slice-aggregate-cut-all-2
+slice-aggregate-cut-all-2 c = sym (length-take-le _ _ (left (c .before .before .before .before .before) .rooms))
+
+cut-all-requires : tie.Need-cut-all-requires
+cut-all-requires c κs =
+    let a = c .before .before .before .before .before .before .before .before .before .before .before .before .before .before .before .before .before .before .before .before .before .before .before .before .args in
+    let k = left (c .before .before .before .before .before .before .before) in (
+      c .before .before .before .before .before .start-of .ensures .1,
+      ordered (ap length (k .points) ∙ length-flat (pointsOut (a .tolerance) (segments (now (a .verbs)) (now (a .points))))) (k .polylines) (ends-ordered (a .tolerance) (segments (now (a .verbs)) (now (a .points)))),
+    )
+
+same-length-3 : tie.Need-same-length-3
+same-length-3 c = search needs
+
+same-length-4 : tie.Need-same-length-4
+same-length-4 c = search needs
+
+same-length-5 : tie.Need-same-length-5
+same-length-5 c = search needs
+
+same-length-6 : tie.Need-same-length-6
+same-length-6 c = search needs
+
+returns-2 : tie.Need-returns-2
+returns-2 c =
+    let a = c .before .before .before .before .before .before .before .before .before .before .before .before .before .before .before .before .before .before .before .before .before .before .before .before .before .before .before .before .before .args in
+    let f = c .before .before .before .before .before .before .before .before .before .before .before .before .before .before .before .before .before .before .flatten in
+    let k = left (c .before .before .before .before .before .before .before .before .before .before .before .before) in
+    scratch-kept (now (a .verbs)) (now (a .points)) (a .rule) (now (a .intervals)) (a .phase) (a .tolerance) (now (a .scratch)) (now (a .ends)) (now (a .vs)) (now (a .fs)) (k .fit) _ _ (k .scratch-is) (k .ends-are)
+    (take (2 * f .result .points) (f .last .1 .1 .1 .0)) (take (f .result .polylines) (f .last .1 .1 .1 .1 .0)) (k .points) (k .polylines)
+    (now (a .cycle)) (c .before .before .before .before .before .before .before .before .before .before .before .before .before .before .before .before .before .before .before .before .before .before .before .before .before .before .before .before .before .pre .2) (c .before .before .before .before .before .before .before .before .before .before .before .sum-of .result) (c .before .before .before .before .before .before .before .before .before .before .before .sum-of .ensures) (c .before .before .before .before .before .before .before .before .before .before .start-of .result) (c .before .before .before .before .before .before .before .before .before .before .start-of .ensures .0) _ _ _ (c .before .before .before .before .cut-all .ensures)
+
+pub cut-spec : {M : Type 1} → statement M
+cut-spec =
+    tie.close
+    (tie.spec
+    flatten-requires
+    same-length
+    same-length-2
+    returns
+    sum-of-requires
+    start-of-requires
+    mul-n
+    slice-reshare-prefix-cut-all
+    slice-aggregate-cut-all
+    slice-reshare-prefix-cut-all-2
+    slice-aggregate-cut-all-2
+    cut-all-requires
+    same-length-3
+    same-length-4
+    same-length-5
+    same-length-6
+    returns-2)

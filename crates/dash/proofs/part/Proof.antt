@@ -1,0 +1,28 @@
+-- `part` meets its contract. Assumes nothing.
+use mathlib.Core.Path.{sym}
+use native.Mathlib.Omega.{arith}
+use lib.Seq.{length-take-le}
+use borrow.Author.Tests.{le-leb, lt-leb}
+use borrow.Author.Needs.{needs}
+use Rattle.dash.proofs.part.Statement.{statement}
+use Rattle.dash.proofs.part.Tie as tie
+
+mul-result : tie.Need-mul-result
+mul-result c = search needs
+
+slice-aggregate-result : tie.Need-slice-aggregate-result
+slice-aggregate-result c = sym (length-take-le _ _ (omega (arith, c .before .if1 .taken)))
+
+returns : tie.Need-returns
+returns c = rw (le-leb _ _ (c .before .if1 .taken))
+
+slice-aggregate-result-2 : tie.Need-slice-aggregate-result-2
+slice-aggregate-result-2 c = search needs
+
+returns-2 : tie.Need-returns-2
+returns-2 c = rw (lt-leb _ _ (c .before .if1 .left))
+
+pub part-spec : {M : Type 1} → statement M
+part-spec =
+    tie.close
+    (tie.spec mul-result slice-aggregate-result returns slice-aggregate-result-2 returns-2)

@@ -1,0 +1,4 @@
+pub mod Ends
+pub mod Dash
+pub mod Outline
+pub mod Runs

@@ -1,0 +1,38 @@
+-- Demand 3's dashing half, of the buffers that `dash_path` leaves: where it answers Cut, the filled part of the dash buffers is runs and nothing else, those of
+-- the polylines that the scratch keeps, none left out, in order. Definitions only.
+use mathlib.Core.Path.{_≡_}
+use Prim.Native.Nat.{_*_}
+use mathlib.Core.Bool.{false}
+use mathlib.Core.List.{List}
+use lib.ListN.{take}
+use lib.Ieee.{Float}
+use Rattle.vec2.specs.declared.Vec2.{Vec2}
+use Rattle.vec2.specs.Points.{flat, pointsIn}
+use Rattle.path.specs.declared.Segment.{Segment}
+use Rattle.path.specs.declared.FillRule.{FillRule}
+use Rattle.path.specs.Segment.{bytesOf, allPoints}
+use Rattle.flatten.specs.Flatten.{pointsOut, endsOut}
+use Rattle.flatten.specs.Polylines.{polylines}
+use Rattle.pattern.specs.Cycle.{cycleOf, period}
+use Rattle.walk.specs.Phase.{startOf}
+use Rattle.walk.specs.Walk.{walkPolyline}
+use Rattle.walk.specs.Drawn.{drawn}
+use Rattle.walk.specs.Runs.{AllRuns}
+use Rattle.dash.specs.declared.Outline.{Outline}
+use Rattle.dash.specs.Dash.{Outcome}
+
+-- the walk of one polyline by a pattern and a phase
+abbrev pub walkOf : List Float → Float → List Vec2 → List Segment
+walkOf intervals phase p = let cs = cycleOf intervals in drawn false (walkPolyline cs (startOf cs phase (period intervals)) p)
+
+-- of the path's segments, an outline o and the outcome b
+pub record Laid (path : List Segment) (intervals : List Float) (phase tolerance : Float) (rule : FillRule) (o : Outline) (b : Outcome) : Type 0 where
+  pub segments : List Segment
+  -- the dash buffers' filled parts are the segments' bytes and points
+  pub verbs : take (o .verbs) (b .verbs) ≡ bytesOf segments
+  pub points : take (2 * o .points) (b .floats) ≡ flat (allPoints segments)
+  -- the scratch keeps the path's polylines
+  pub kept : pointsIn (take (2 * o .scratch) (b .scratch)) ≡ pointsOut tolerance path
+  pub ended : take (o .polylines) (b .ends) ≡ endsOut tolerance path
+  pub runs : AllRuns (walkOf intervals phase) (polylines 0 (pointsIn (take (2 * o .scratch) (b .scratch))) (take (o .polylines) (b .ends))) segments
+  pub same-rule : o .rule ≡ rule

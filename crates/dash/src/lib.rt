@@ -1,0 +1,249 @@
+// `dash_path`: a path cut into the drawn pieces of a dash pattern, and `drawn_outline`.
+ghost use mathlib.Core.Path.{_≡_};
+ghost use mathlib.Core.Bool.{true};
+ghost use Prim.Native.Nat.{_+_, _*_, _/_, _%_, _^_, _≤_, _<_};
+ghost use lib.ListN.{length};
+ghost use Rattle.vec2.specs.Points.{pointsIn};
+ghost use Rattle.path.specs.Check.{badPath};
+ghost use Rattle.flatten.specs.Polylines.{polylines};
+ghost use Rattle.pattern.specs.Cycle.{cycleOf};
+ghost use Rattle.walk.specs.Walk.{walkAll};
+ghost use Rattle.walk.specs.Lay.{out, laid, Room};
+ghost use Rattle.walk.specs.Count.{UpTo, itself};
+ghost use Rattle.dash.specs.Ends.{Ordered};
+ghost use Rattle.dash.specs.Dash.{refusal as refusalOf, Cap, cutOutcome, outOutcome, outcome, answering, dashing};
+ghost use Rattle.dash.specs.Outline.{part as partOf, outlineOf};
+use path::FillRule;
+use walk::Pos;
+
+// What is cut: the verbs and points in the dash buffers, the points and polylines in the scratch, and the path's fill rule.
+pub struct Outline {
+    pub verbs: usize,
+    pub points: usize,
+    pub scratch: usize,
+    pub polylines: usize,
+    pub rule: FillRule,
+}
+
+pub enum Dashed {
+    Whole,
+    Cut(Outline),
+    Refused(u8),
+}
+
+// 1, then the path's 4, 5, 6, then 8; 0 for none.
+fn refusal(verbs: &[u8], points: &[f32], intervals: &[f32], scratch: usize, dash: usize) -> u8
+    ensures { λ r. ⌜ r ≡ refusalOf (now (verbs .entry)) (now (points .entry)) (now (intervals .entry)) scratch dash ⌝ }
+{
+    if points.len() % 2 != 0 {
+        return 1;
+    }
+    if scratch % 2 != 0 {
+        return 1;
+    }
+    if dash % 2 != 0 {
+        return 1;
+    }
+    let bad = path::check(verbs, points);
+    if bad != 0 {
+        return bad;
+    }
+    if 64 < intervals.len() {
+        return 8;
+    }
+    0
+}
+
+// How many verbs of one point each the dash buffers take, up to the path limits.
+fn room(verbs: usize, floats: usize) -> usize
+    ensures { λ r. ⌜ Cap verbs floats r ⌝ }
+{
+    let points = floats / 2;
+    if verbs <= points {
+        if verbs <= path::MAX_VERBS {
+            return verbs;
+        }
+        return path::MAX_VERBS;
+    }
+    if points <= path::MAX_VERBS {
+        return points;
+    }
+    path::MAX_VERBS
+}
+
+// How many verbs the walks of all polylines lay; the count stops over the cap, so that a fine pattern on a long path is refused at once.
+fn count_all(points: &[f32], ends: &[usize], cycle: &[f32], start: Pos, cap: usize) -> usize
+    requires { ⌜ (start .index < length (now cycle)) × (cap < 2 ^ 61) × Ordered (length (now points)) 0 (now ends) ⌝ }
+    ensures { λ r. ⌜ UpTo itself cap (length (walkAll (now (cycle .entry)) start (polylines 0 (pointsIn (now (points .entry))) (now (ends .entry))))) r ⌝ }
+{
+    let mut from = 0usize;
+    let mut k = 0usize;
+    let mut j = 0usize;
+    while j < ends.len() {
+        let e = ends[j];
+        let a = 2 * from;
+        let b = 2 * e;
+        k = walk::count_polyline(&points[a..b], cycle, start, k, cap);
+        if cap < k {
+            return k;
+        }
+        from = e;
+        j += 1;
+    }
+    k
+}
+
+// Walks each polyline in turn, the phase starting anew, and lays what is drawn. Answers how many verbs are laid.
+fn lay_all(
+    points: &[f32],
+    ends: &[usize],
+    cycle: &[f32],
+    start: Pos,
+    verbs: &mut [u8],
+    floats: &mut [f32],
+) -> usize
+    requires { ⌜ (start .index < length (now cycle)) × Ordered (length (now points)) 0 (now ends)
+        × Room (length (now verbs)) (length (now floats)) (laid (out (now verbs) (now floats) 0) (walkAll (now cycle) start (polylines 0 (pointsIn (now points)) (now ends)))) ⌝ }
+    ensures { λ r. ⌜ out (now (verbs .exit)) (now (floats .exit)) r
+        ≡ laid (out (now (verbs .entry)) (now (floats .entry)) 0) (walkAll (now (cycle .entry)) start (polylines 0 (pointsIn (now (points .entry))) (now (ends .entry)))) ⌝ }
+{
+    let mut from = 0usize;
+    let mut k = 0usize;
+    let mut j = 0usize;
+    while j < ends.len() {
+        let e = ends[j];
+        let a = 2 * from;
+        let b = 2 * e;
+        k = walk::lay_polyline(&points[a..b], cycle, start, verbs, floats, k);
+        from = e;
+        j += 1;
+    }
+    k
+}
+
+// Counts what the polylines give, and lays it where it fits.
+fn cut_all(
+    points: &[f32],
+    ends: &[usize],
+    cycle: &[f32],
+    start: Pos,
+    rule: FillRule,
+    verbs: &mut [u8],
+    floats: &mut [f32],
+) -> Dashed
+    requires { ⌜ (start .index < length (now cycle)) × Ordered (length (now points)) 0 (now ends) ⌝ }
+    ensures { λ r. ⌜ cutOutcome r (now (verbs .exit)) (now (floats .exit))
+        ≡ outOutcome (walkAll (now (cycle .entry)) start (polylines 0 (pointsIn (now (points .entry))) (now (ends .entry)))) (length (now (points .entry)) / 2) (length (now (ends .entry))) rule (now (verbs .entry)) (now (floats .entry)) ⌝ }
+{
+    let cap = room(verbs.len(), floats.len());
+    let n = count_all(points, ends, cycle, start, cap);
+    if cap < n {
+        return Dashed::Refused(3);
+    }
+    let m = lay_all(points, ends, cycle, start, verbs, floats);
+    let o = Outline {
+        verbs: m,
+        points: m,
+        scratch: points.len() / 2,
+        polylines: ends.len(),
+        rule,
+    };
+    Dashed::Cut(o)
+}
+
+// Flattens into the scratch, and lays the dashes.
+fn cut(
+    verbs: &[u8],
+    points: &[f32],
+    rule: FillRule,
+    intervals: &[f32],
+    cycle: &[f32],
+    phase: f32,
+    tolerance: f32,
+    scratch: &mut [f32],
+    ends: &mut [usize],
+    vs: &mut [u8],
+    fs: &mut [f32],
+) -> Dashed
+    requires { ⌜ (length (now scratch) % 2 ≡ 0) × (badPath (now verbs) (now points) ≡ 0) × (now cycle ≡ cycleOf (now intervals)) × (0 < length (now cycle)) ⌝ }
+    ensures { λ r. ⌜ outcome r (now (scratch .exit)) (now (ends .exit)) (now (vs .exit)) (now (fs .exit))
+        ≡ answering 0 true (now (verbs .entry)) (now (points .entry)) rule (now (intervals .entry)) phase tolerance (now (scratch .entry)) (now (ends .entry)) (now (vs .entry)) (now (fs .entry)) ⌝ }
+{
+    let f = flatten::flatten(verbs, points, tolerance, scratch, ends);
+    if f.refused != 0 {
+        return Dashed::Refused(3);
+    }
+    let period = pattern::sum_of(cycle);
+    let start = walk::start_of(cycle, phase, period);
+    let n = 2 * f.points;
+    let k = f.polylines;
+    cut_all(&scratch[..n], &ends[..k], cycle, start, rule, vs, fs)
+}
+
+// Cuts a path into the drawn pieces of a dash pattern.
+pub fn dash_path(
+    verbs: &[u8],
+    points: &[f32],
+    rule: FillRule,
+    intervals: &[f32],
+    phase: f32,
+    tolerance: f32,
+    scratch: &mut [f32],
+    ends: &mut [usize],
+    dash_verbs: &mut [u8],
+    dash_points: &mut [f32],
+) -> Dashed
+    ensures { λ r. ⌜ outcome r (now (scratch .exit)) (now (ends .exit)) (now («dash_verbs» .exit)) (now («dash_points» .exit))
+        ≡ dashing (now (verbs .entry)) (now (points .entry)) rule (now (intervals .entry)) phase tolerance (now (scratch .entry)) (now (ends .entry)) (now («dash_verbs» .entry)) (now («dash_points» .entry)) ⌝ }
+{
+    let refused = refusal(verbs, points, intervals, scratch.len(), dash_points.len());
+    if refused != 0 {
+        return Dashed::Refused(refused);
+    }
+    let c = pattern::cycle_of(intervals);
+    let n = c.len;
+    let values = c.values;
+    let cycle = &values[..n];
+    if pattern::is_cut(intervals, cycle, phase, tolerance) {
+        return cut(
+            verbs,
+            points,
+            rule,
+            intervals,
+            cycle,
+            phase,
+            tolerance,
+            scratch,
+            ends,
+            dash_verbs,
+            dash_points,
+        );
+    }
+    Dashed::Whole
+}
+
+// The floats of the first n points; none where there are fewer.
+fn part<'a>(floats: &'a [f32], n: usize) -> &'a [f32]
+    ensures { λ r. ⌜ now r ≡ partOf (now (floats .entry)) n ⌝ }
+{
+    if n <= floats.len() / 2 {
+        return &floats[..2 * n];
+    }
+    &floats[..0]
+}
+
+// The drawn outline: the path's own part, or the filled part of the dash buffer; nothing where the numbers do not fit.
+pub fn drawn_outline<'a>(
+    path: &'a [f32],
+    points: usize,
+    dash: &'a [f32],
+    answer: Dashed,
+) -> &'a [f32]
+    ensures { λ r. ⌜ now r ≡ outlineOf (now (path .entry)) points (now (dash .entry)) answer ⌝ }
+{
+    match answer {
+        Dashed::Whole => part(path, points),
+        Dashed::Cut(o) => part(dash, o.points),
+        Dashed::Refused(_) => part(dash, 0),
+    }
+}
