@@ -340,14 +340,14 @@ fn lay_leg(cycle: &[f32], g: Leg, w: Walked, verbs: &mut [u8], floats: &mut [f32
     let mut k = w.tip;
     let mut t = 0.0f32;
     while g.length - t > p.left {
-        let next = t + p.left;
-        if next <= t {
+        let end = t + p.left;
+        if end <= t {
             break;
         }
-        let e = inside(g, p, next);
+        let e = inside(g, p, end);
         k = put(verbs, floats, k, e);
         p = next_interval(cycle, p);
-        t = next;
+        t = end;
     }
     let e = resting(g, p, t);
     let tip = put(verbs, floats, k, e);
