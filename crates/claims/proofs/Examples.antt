@@ -1,0 +1,77 @@
+-- The starred examples of the scope, together, computed from the definitions: tolerance 0.25, phase 0. Assumes nothing.
+use mathlib.Core.Path.{_≡_, refl}
+use mathlib.Core.Bool.{true, false}
+use mathlib.Core.List.{List, [], _∷_}
+use Prim.Native.Nat.{ℕ}
+use lib.Count.{trailingZeros}
+use lib.Ieee.{Float, nan, inf, binary32, isNan, add, sub, mul, div, rem, lt, le, eq, neg, sum, round, size, units, odd, span, climb, ofInt, ofBits, ofFields}
+use Rattle.float.specs.Arith.{f0, f1, quarter, whole}
+use Rattle.float.specs.Small.{abs, isFinite, maximum, remEuclid}
+use Rattle.float.specs.Root.{squareRoot, twiceRoot, wholeRoot}
+use Rattle.float.specs.Count.{segmentCount}
+use Rattle.vec2.specs.declared.Vec2.{Vec2}
+use Rattle.vec2.specs.Vec2.{vec, origin, anyNan, allFinite}
+use Rattle.path.specs.declared.Segment.{Segment}
+use Rattle.path.specs.declared.Segment.the-variants.{Move, Line}
+use Rattle.conic.specs.Conic.{straight}
+use Rattle.curve.specs.Count.{bend, quadCount, cubicCount}
+use Rattle.builder.specs.declared.Call.the-variants.{ConicTo}
+use Rattle.builder.specs.Call.{lays}
+use Rattle.builder.specs.Laid.{lay, puts, laidFrom, laid}
+use Rattle.pattern.specs.Cycle.{cuts}
+use Rattle.walk.specs.Loop.{trace, traced}
+use Rattle.walk.specs.Walk.{cutFrom, walkFrom}
+use Rattle.dash.specs.Runs.{walkOf}
+
+-- a point with whole coordinates
+abbrev at : ℕ → ℕ → Vec2
+at a b = vec (whole a) (whole b)
+
+abbrev dashed : List Float → List Vec2 → List Segment
+dashed intervals ps = walkOf intervals f0 ps
+
+abbrev eighth : Float
+eighth = ofBits binary32 0x3e00_0000
+
+pub record Starred : Type 0 where
+  pub s-1 : segmentCount f1 ≡ 1
+  -- 1 + 2 ^ -23 and 1 + 2 ^ -22
+  pub s-1-23 : segmentCount (ofBits binary32 0x3f80_0001) ≡ 1
+  pub s-1-22 : segmentCount (ofBits binary32 0x3f80_0002) ≡ 2
+  pub s-998001 : segmentCount (whole 998001) ≡ 999
+  pub s-1000000 : segmentCount (whole 1000000) ≡ 1000
+  pub s-∞ : segmentCount (inf false) ≡ 1000
+  pub s-nan : segmentCount nan ≡ 1
+  pub quad-bent : quadCount quarter (at 0 0) (at 8 8) (at 16 0) ≡ 5
+  pub quad-straight : quadCount quarter (at 0 0) (at 8 0) (at 16 0) ≡ 1
+  pub cubic-bent : cubicCount quarter (at 0 0) (at 0 8) (at 16 8) (at 16 0) ≡ 9
+  pub dash-2-1 :
+      dashed (whole 2 ∷ whole 1 ∷ []) (at 0 0 ∷ at 8 0 ∷ [])
+      ≡ Move (at 0 0) ∷ Line (at 2 0) ∷ Move (at 3 0) ∷ Line (at 5 0) ∷ Move (at 6 0) ∷ Line (at 8 0) ∷ []
+  pub dash-5 : dashed (whole 5 ∷ []) (at 0 0 ∷ at 8 0 ∷ []) ≡ Move (at 0 0) ∷ Line (at 5 0) ∷ []
+  pub corner-6-2 : dashed (whole 6 ∷ whole 2 ∷ []) (at 0 0 ∷ at 4 0 ∷ at 4 4 ∷ []) ≡ Move (at 0 0) ∷ Line (at 4 0) ∷ Line (at 4 2) ∷ []
+  pub corner-2-1 : dashed (whole 2 ∷ whole 1 ∷ []) (at 0 0 ∷ at 2 0 ∷ at 2 4 ∷ []) ≡ Move (at 0 0) ∷ Line (at 2 0) ∷ Line (at 2 4) ∷ []
+  pub whole-fine : cuts (eighth ∷ eighth ∷ []) f0 quarter ≡ false
+  pub weight-0 : laid (ConicTo (at 1 1) (at 2 0) f0 ∷ []) (0 ∷ []) ≡ Move origin ∷ Line (at 2 0) ∷ []
+
+pub starred : Starred
+unfolding segmentCount bend anyNan allFinite straight lays lay puts laidFrom walkFrom cutFrom trace traced squareRoot twiceRoot wholeRoot isFinite maximum remEuclid abs isNan add sub mul div rem lt le eq neg sum round size units odd span climb ofInt ofBits ofFields trailingZeros
+starred =
+    record {
+      s-1 = refl;
+      s-1-23 = refl;
+      s-1-22 = refl;
+      s-998001 = refl;
+      s-1000000 = refl;
+      s-∞ = refl;
+      s-nan = refl;
+      quad-bent = refl;
+      quad-straight = refl;
+      cubic-bent = refl;
+      dash-2-1 = refl;
+      dash-5 = refl;
+      corner-6-2 = refl;
+      corner-2-1 = refl;
+      whole-fine = refl;
+      weight-0 = refl;
+    }

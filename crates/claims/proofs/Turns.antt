@@ -1,0 +1,95 @@
+-- The loop of `replay`: what the calls that are left make of the present state and buffers, with what was counted, is what the whole list makes of a
+-- fresh builder. Assumes nothing.
+use mathlib.Core.Path.{_≡_, refl, sym, ap, ap₂, _∙_}
+use mathlib.Core.Bool.{Bool, true, false, cond}
+use mathlib.Core.List.{List, [], _∷_}
+use Prim.Native.Nat.{ℕ, zero, suc, _+_, _*_}
+use native.Mathlib.Nat.{add-zero, zero-add}
+use native.Mathlib.Omega.{arith}
+use lib.ListN.{length}
+use lib.Seq.{sets, length-sets}
+use lib.Ieee.{Float}
+use Rattle.builder.specs.declared.PathBuilder.{PathBuilder}
+use Rattle.builder.specs.declared.Reply.{Reply}
+use Rattle.builder.specs.declared.Call.{Call}
+use Rattle.builder.specs.Build as build
+use Rattle.builder.specs.Build.{Built, over, run, refusals, unless, pushed, buffered, called, call}
+use Rattle.vec2.specs.Points.{flat}
+use Rattle.path.specs.declared.Segment.{Segment}
+use Rattle.path.specs.Segment.{bytesOf, allPoints}
+use Rattle.claims.specs.Calls.{calls}
+use Rattle.claims.specs.declared.Place.{Place}
+use Rattle.claims.proofs.Places.{left}
+use Rattle.claims.specs.Replay.{Outcome, oneIf, refusedOf, told, replayed}
+
+abbrev pub at : PathBuilder → List ℕ → List Float → Built
+at b vs fs = record { state = b; bytes = vs; floats = fs }
+
+-- the calls cs played from b, n calls and k refusals standing before
+unfoldable pub played : Built → List Call → ℕ → ℕ → Outcome
+played b cs n k = told (run b cs) (n + length cs) (k + refusedOf (refusals b cs))
+
+pub played-whole : (ks : List ℕ) (ns : List Float) (bs : List ℕ) (fs : List Float) → played (over bs fs) (calls ks ns) 0 0 ≡ replayed ks ns bs fs
+unfolding played replayed
+played-whole ks ns bs fs = rw (zero-add, zero-add)
+
+pub played-none : (b : Built) (cs : List Call) (n k : ℕ) → cs ≡ [] → told b n k ≡ played b cs n k
+unfolding played run refusals refusedOf
+played-none b cs n k e = rw (e, add-zero, add-zero)
+
+-- one call more, which answers o
+played-more : (b : Built) (c : Call) (cs : List Call) (n k : ℕ) → played (build.left (call b c)) cs (n + 1) (k + oneIf (call b c .reply .refused)) ≡ played b (c ∷ cs) n k
+unfolding played run refusals refusedOf
+played-more b c cs n k =
+    let o = call b c in
+    ap₂ (λ (x y : ℕ). told (run (build.left o) cs) x y) (one-more n (length cs)) (assoc k (oneIf (o .reply .refused)) (refusedOf (refusals (build.left o) cs)))
+  where
+    one-more : (x y : ℕ) → x + 1 + y ≡ x + suc y
+    one-more x y = omega arith
+
+    assoc : (x y z : ℕ) → x + y + z ≡ x + (y + z)
+    assoc x y z = omega arith
+
+-- the same, as the builder's own promise tells it
+pub played-one : (b : PathBuilder) (vs : List ℕ) (fs : List Float) (c : Call) (cs : List Call) (n k : ℕ) (r : Reply) (vs' : List ℕ) (fs' : List Float) (m : ℕ) →
+    build.outcome r vs' fs' ≡ called b vs fs c → m ≡ oneIf (r .refused) →
+    played (at (r .state) vs' fs') cs (n + 1) (k + m) ≡ played (at b vs fs) (c ∷ cs) n k
+played-one b vs fs c cs n k r vs' fs' m e q =
+    ap (λ (x : ℕ). played (at (r .state) vs' fs') cs (n + 1) (k + x)) q
+    ∙ ap (λ (o : build.Outcome). played (build.left o) cs (n + 1) (k + oneIf (o .reply .refused))) e
+    ∙ played-more (at b vs fs) c cs n k
+
+-- a turn of the loop
+pub turn : (ks : List ℕ) (ns : List Float) (p d : Place) (c : Call) (b : PathBuilder) (vs vs' : List ℕ) (fs fs' : List Float) (r : Reply) (k m : ℕ) (all : Outcome) →
+    build.outcome r vs' fs' ≡ called b vs fs c → m ≡ oneIf (r .refused) → left ks ns p ≡ c ∷ left ks ns d → d .kind ≡ p .kind + 1 →
+    played (at b vs fs) (left ks ns p) (p .kind) k ≡ all → played (at (r .state) vs' fs') (left ks ns d) (d .kind) (k + m) ≡ all
+turn ks ns p d c b vs vs' fs fs' r k m all e q l i h =
+    ap (λ (n : ℕ). played (at (r .state) vs' fs') (left ks ns d) n (k + m)) i
+    ∙ played-one b vs fs c (left ks ns d) (p .kind) k r vs' fs' m e q
+    ∙ ap (λ (cs : List Call). played (at b vs fs) cs (p .kind) k) (sym l)
+    ∙ h
+
+-- ---- a call keeps the buffers' lengths
+
+kept : {A : Type 0} (n : ℕ) (l : List A) (i : ℕ) (vs : List A) → length (unless n l (sets l i vs)) ≡ length l
+kept zero l i vs = length-sets l i vs
+kept (suc n) l i vs = refl
+
+pub record Kept (vs vs' : List ℕ) (fs fs' : List Float) : Type 0 where
+  pub bytes : length vs' ≡ length vs
+  pub floats : length fs' ≡ length fs
+
+pushed-kept : (t : Bool) (q : ℕ) (b : PathBuilder) (vs : List ℕ) (fs : List Float) (ss : List Segment) (r : Reply) →
+    let o = cond t (pushed q b vs fs ss) (build.outcome r vs fs) in Kept vs (o .bytes) fs (o .floats)
+unfolding pushed
+pushed-kept true q b vs fs ss r =
+    let n = build.refusal b (length vs) (length fs) (length ss) (length (allPoints ss)) in
+    record { bytes = kept n vs (b .verbs) (bytesOf ss); floats = kept n fs (2 * b .points) (flat (allPoints ss)) }
+pushed-kept false q b vs fs ss r = record { bytes = refl; floats = refl }
+
+pub call-kept : (b : PathBuilder) (vs : List ℕ) (fs : List Float) (c : Call) (r : Reply) (vs' : List ℕ) (fs' : List Float) →
+    build.outcome r vs' fs' ≡ called b vs fs c → Kept vs vs' fs fs'
+unfolding called
+call-kept b vs fs c r vs' fs' e =
+    let k = pushed-kept (buffered c) (build.quadsLaid b c) b vs fs (build.new b c) (build.answered (build.told b c)) in
+    record { bytes = ap (λ (o : build.Outcome). length (o .bytes)) e ∙ k .bytes; floats = ap (λ (o : build.Outcome). length (o .floats)) e ∙ k .floats }

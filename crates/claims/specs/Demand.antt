@@ -1,0 +1,61 @@
+-- Demand 3, as one type: a claim about every list of builder calls from a fresh builder over lent buffers of any length and content, refused calls
+-- included, about every tolerance, pattern and phase, and about outputs of any length and content. Definitions only.
+use mathlib.Core.Path.{_≡_}
+use Prim.Native.Nat.{ℕ, _*_}
+use mathlib.Core.List.{List}
+use lib.ListN.{take}
+use lib.Ieee.{Float}
+use Rattle.vec2.specs.Points.{pointsIn}
+use Rattle.path.specs.declared.FillRule.{FillRule}
+use Rattle.path.specs.Segment.{segments}
+use Rattle.path.specs.Check.{badPath}
+use Rattle.builder.specs.declared.Call.{Call}
+use Rattle.builder.specs.Build.{Built, over, run}
+use Rattle.builder.specs.Laid.{laidBy, pathVerbs, pathFloats}
+use Rattle.flatten.specs.Flatten as flat
+use Rattle.flatten.specs.Kept.{Kept}
+use Rattle.dash.specs.declared.Outline.{Outline}
+use Rattle.dash.specs.declared.Dashed.the-variants.{Cut}
+use Rattle.dash.specs.Dash as dash
+use Rattle.dash.specs.Runs.{Laid}
+
+-- what the calls leave
+abbrev pub built : List Call → List ℕ → List Float → Built
+built cs bs fs = run (over bs fs) cs
+
+-- the path left is no damaged one, and it is the laid list
+abbrev pub Builds : Type 0
+Builds =
+    (cs : List Call) (bs : List ℕ) (fs : List Float) →
+    let b = built cs bs fs in
+    (badPath (pathVerbs b) (pathFloats b) ≡ 0) × (segments (pathVerbs b) (pathFloats b) ≡ laidBy cs bs fs)
+
+-- what flattening that path answers, and leaves
+abbrev pub flattening : List Call → List ℕ → List Float → Float → List Float → List ℕ → flat.Outcome
+flattening cs bs fs tolerance out ends = flat.flatten (pathVerbs (built cs bs fs)) (pathFloats (built cs bs fs)) tolerance out ends
+
+-- A flattening that isn't refused loses or shifts no end point of the laid list.
+abbrev pub Flattens : Type 0
+Flattens =
+    (cs : List Call) (bs : List ℕ) (fs : List Float) (tolerance : Float) (out : List Float) (ends : List ℕ) →
+    let f = flattening cs bs fs tolerance out ends in
+    f .answer .refused ≡ 0 →
+    Kept tolerance (laidBy cs bs fs) (f .answer) (pointsIn (take (2 * f .answer .points) (f .floats))) (take (f .answer .polylines) (f .ends))
+
+-- what dashing that path answers, and leaves
+abbrev pub dashing : List Call → List ℕ → List Float → FillRule → List Float → Float → Float → List Float → List ℕ → List ℕ → List Float → dash.Outcome
+dashing cs bs fs rule intervals phase tolerance scratch ends verbs points =
+    dash.dashing (pathVerbs (built cs bs fs)) (pathFloats (built cs bs fs)) rule intervals phase tolerance scratch ends verbs points
+
+-- Where dashing cuts that path, its output is the walk's of every polyline, none left out, and that is runs and nothing else.
+abbrev pub Dashes : Type 0
+Dashes =
+    (cs : List Call) (bs : List ℕ) (fs : List Float) (rule : FillRule) (intervals : List Float) (phase tolerance : Float)
+    (scratch : List Float) (ends verbs : List ℕ) (points : List Float) (o : Outline) →
+    let d = dashing cs bs fs rule intervals phase tolerance scratch ends verbs points in
+    d .reply ≡ Cut o → Laid (laidBy cs bs fs) intervals phase tolerance rule o d
+
+pub record Demand3 : Type 0 where
+  pub builds : Builds
+  pub flattens : Flattens
+  pub dashes : Dashes
