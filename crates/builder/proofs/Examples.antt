@@ -1,20 +1,18 @@
 -- Small call lists, from the definitions by computation. Assumes nothing.
 use mathlib.Core.Path.{_≡_, refl}
-use mathlib.Core.Bool.{Bool, true, false}
 use mathlib.Core.List.{List, [], _∷_}
 use Prim.Native.Nat.{ℕ}
-use lib.Ieee.{Float, nan, inf, ofBits, ofInt, lt, isNan}
+use lib.Ieee.{nan, ofBits, ofInt}
 use Rattle.float.specs.Arith.{whole, f0, f1}
-use Rattle.float.specs.Small.{isFinite, maximum}
+use Rattle.float.specs.Small.{isFinite}
 use Rattle.vec2.specs.declared.Vec2.{Vec2}
 use Rattle.vec2.specs.Vec2.{vec, origin, allFinite}
-use Rattle.path.specs.declared.Segment.the-variants.{Move, Line, Quad, Close}
+use Rattle.path.specs.declared.Segment.the-variants.{Move, Line, Close}
 use Rattle.builder.specs.declared.Call.{Call}
-use Rattle.builder.specs.declared.Call.the-variants.{MoveTo, LineTo, QuadTo, CubicTo, Close as CloseIt, AsRoundedRect}
-use Rattle.builder.specs.declared.CurrentPoint.the-variants.{At}
+use Rattle.builder.specs.declared.Call.the-variants.{MoveTo, LineTo, QuadTo, Close as CloseIt, AsRoundedRect}
 use Rattle.builder.specs.declared.Note.the-variants.{Unknown}
 use Rattle.builder.specs.Call.{lays}
-use Rattle.builder.specs.Build.{Built, over, run, refusals, called, pushed, steps, told, finiteBox, quadsLaid, refusal, badState, noRoom, verbCap, pointCap, currentOf, noteOf, penOf}
+use Rattle.builder.specs.Build.{Built, over, run, refusals, called, pushed, steps, told, finiteBox, refusal, badState, noRoom, verbCap, pointCap, noteOf, penOf}
 use Rattle.builder.specs.Laid.{laidBy, laidFrom, lay, puts}
 
 -- four bytes and six floats

@@ -9,7 +9,6 @@ use native.Mathlib.Omega.{arith}
 use lib.ListN.{length, take, drop, length-append}
 use lib.Seq.{sets, sets-eq, length-sets, take-at, length-take-le}
 use lib.Ieee.{Float}
-use Rattle.vec2.specs.declared.Vec2.{Vec2}
 use Rattle.vec2.specs.Points.{flat}
 use Rattle.vec2.proofs.Points.{flat-append, length-flat}
 use Rattle.path.specs.declared.Segment.{Segment}
@@ -21,7 +20,7 @@ use Rattle.builder.specs.declared.PathBuilder.{PathBuilder}
 use Rattle.builder.specs.declared.Call.{Call}
 use Rattle.builder.specs.declared.Call.the-variants.{MoveTo, LineTo, QuadTo, ConicTo, CubicTo, Close as CloseIt, WithFillRule, AsRoundedRect}
 use Rattle.builder.specs.Call.{lays}
-use Rattle.builder.specs.Build.{startOf, penOf, step, steps, ruledBy, notedAs, told, finiteBox, refusal, new, quadsLaid, Built, pushedBy, pushed, called, call, left, run, refusals, over}
+use Rattle.builder.specs.Build.{startOf, penOf, step, steps, ruledBy, notedAs, told, finiteBox, refusal, new, Built, pushedBy, pushed, called, call, left, run, refusals, over}
 use Rattle.builder.specs.Laid.{Laid, nothing, put, puts, some, lay, feed, laidFrom, laidBy, pathVerbs, pathFloats}
 use Rattle.builder.specs.Room.{Room}
 use Rattle.builder.proofs.Laws.{refusal-room}

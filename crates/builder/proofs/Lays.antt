@@ -100,9 +100,9 @@ draws-quads t qs (more a p rs h) c =
     draws-quads t rs h (step c (Quad a p)) ∙ moved-twice c 1 2 (length rs) (2 * length rs) (startOf c) p (startOf c) t
     ∙ moved-as c (omega arith) (omega arith)
 
-pub drawn-as : (n : ℕ) (b : PathBuilder) (v k : ℕ) (p : Vec2) {l : ℕ} {a : Vec2} → l ≡ lead (b .started) → a ≡ from (b .started) (startOf b) →
-    unless n b (moved b (l + v) (l + k) a p) ≡ unless n b (drawnBy b v k p)
-drawn-as n b v k p e d = rw (e, d)
+pub drawn-as : (n q : ℕ) (b : PathBuilder) (v k : ℕ) (p : Vec2) {l : ℕ} {a : Vec2} → l ≡ lead (b .started) → a ≡ from (b .started) (startOf b) →
+    repliedBy n q b (moved b (l + v) (l + k) a p) ≡ repliedBy n q b (drawnBy b v k p)
+drawn-as n q b v k p e d = rw (e, d)
 
 lead-length : (t : Bool) → lead t ≡ length (opening t)
 lead-length true = refl
@@ -160,9 +160,9 @@ module _ (q : ℕ) (b : PathBuilder) (vs : List ℕ) (fs : List Float) (ts : Lis
 
 module _ (b : PathBuilder) (vs : List ℕ) (fs : List Float) (a c t : Vec2) (w : Float) (n : ℕ)
     (asked : n ≡ refusal b (length vs) (length fs) (lead (b .started) + length (quads a c t w)) (lead (b .started) + 2 * length (quads a c t w))) where
-  pub bend-refused : {a' : Vec2} → a ≡ a' → (n ≡ 0 → ⊥) → outcome (record { state = b; quads = 0; refused = n }) vs fs ≡ pushed (length (quads a' c t w)) b vs fs (opening (b .started) ++ quads a' c t w)
-  bend-refused e h =
-      rw (← e)
+  pub bend-refused : {a' : Vec2} {r : Reply} → a ≡ a' → (n ≡ 0 → ⊥) → r ≡ record { state = b; quads = 0; refused = n } → outcome r vs fs ≡ pushed (length (quads a' c t w)) b vs fs (opening (b .started) ++ quads a' c t w)
+  bend-refused e h er =
+      rw (← e, er)
       (unchanged (length (quads a c t w)) b vs fs (opening (b .started) ++ quads a c t w) n h
       (asked ∙ refusal-as b (length vs) (length fs) (sym (count-all 0 b vs fs (quads a c t w))) (omega (arith, points-all 0 b vs fs (quads a c t w), quads-points a c t w))))
 

@@ -442,6 +442,30 @@ impl PathBuilder {
         n
     }
 
+    // The answer that leaves this state, unless n refuses; apart from the stores, so that the state is copied once.
+    fn settle(self, n: u8, v: usize, k: usize, quads: usize, start: Vec2, pen: Vec2) -> Reply
+        requires { ⌜ (n ≡ 0 → (self .verbs + v ≤ 131072) × (self .points + k ≤ 131072)) ⌝ }
+        ensures { λ r. ⌜ r ≡ repliedBy n quads self (moved self v k start pen) ⌝ }
+    {
+        let state = self.after(n, v, k, start, pen);
+        Reply {
+            state,
+            quads,
+            refused: n,
+        }
+    }
+
+    // The answer of a call that changes nothing.
+    fn unmoved(self, n: u8) -> Reply
+        ensures { λ r. ⌜ r ≡ record { state = self; quads = 0; refused = n } ⌝ }
+    {
+        Reply {
+            state: self,
+            quads: 0,
+            refused: n,
+        }
+    }
+
     // The answer of a drawn call of v verbs and k points that ends at p.
     fn drawn(self, n: u8, v: usize, k: usize, quads: usize, p: Vec2) -> Reply
         requires { ⌜ (v ≤ 64) × (k ≤ 128) × (n ≡ 0 → (self .verbs + (lead (self .started) + v) ≤ 131072) × (self .points + (lead (self .started) + k) ≤ 131072)) ⌝ }
@@ -449,12 +473,7 @@ impl PathBuilder {
     {
         let l = lead_of(self.started);
         let start = self.start();
-        let state = self.after(n, l + v, l + k, start, p);
-        Reply {
-            state,
-            quads,
-            refused: n,
-        }
+        self.settle(n, l + v, l + k, quads, start, p)
     }
 
     // ---- the calls
@@ -464,12 +483,7 @@ impl PathBuilder {
     {
         let n = self.refused(verbs.len(), points.len(), 1, 1);
         put_one(n, 0, p, verbs, self.verbs, points, self.points, 0);
-        let state = self.after(n, 1, 1, p, p);
-        Reply {
-            state,
-            quads: 0,
-            refused: n,
-        }
+        self.settle(n, 1, 1, 0, p, p)
     }
 
     // A line before any move starts at the origin.
@@ -513,21 +527,12 @@ impl PathBuilder {
     {
         if !self.started {
             let n = self.refused(verbs.len(), points.len(), 0, 0);
-            return Reply {
-                state: self,
-                quads: 0,
-                refused: n,
-            };
+            return self.unmoved(n);
         }
         let n = self.refused(verbs.len(), points.len(), 1, 0);
         put_verb(n, 4, verbs, self.verbs);
         let start = Vec2::new(self.start_x, self.start_y);
-        let state = self.after(n, 1, 0, start, start);
-        Reply {
-            state,
-            quads: 0,
-            refused: n,
-        }
+        self.settle(n, 1, 0, 0, start, start)
     }
 
     // The number that refuses a conic's quads, or 0. They are counted where there is no room for all 64.
@@ -565,11 +570,7 @@ impl PathBuilder {
         let start = self.pen();
         let n = self.conic_refused(verbs.len(), points.len(), start, ctrl, to, weight);
         if n != 0 {
-            return Reply {
-                state: self,
-                quads: 0,
-                refused: n,
-            };
+            return self.unmoved(n);
         }
         let l = lead_of(self.started);
         let v = self.verbs + l;

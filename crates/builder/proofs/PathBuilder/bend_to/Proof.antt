@@ -24,8 +24,11 @@ pen-requires c κs = search needs
 conic-refused-requires : tie.Need-conic-refused-requires
 conic-refused-requires c κs = search needs
 
+unmoved-requires : tie.Need-unmoved-requires
+unmoved-requires c κs = search needs
+
 returns : tie.Need-returns
-returns c = bend-refused _ _ _ _ _ _ _ _ (c .before .conic-refused .ensures) (c .before .before .pen .ensures) (c .if1 .taken)
+returns c = bend-refused _ _ _ _ _ _ _ _ (c .before .before .conic-refused .ensures) (c .before .before .before .pen .ensures) (c .before .if1 .taken) (c .unmoved .ensures)
 
 lead-of-requires : tie.Need-lead-of-requires
 lead-of-requires c κs = search needs
@@ -70,6 +73,7 @@ bend-to-spec =
     (tie.spec
     pen-requires
     conic-refused-requires
+    unmoved-requires
     returns
     lead-of-requires
     add-v

@@ -1,5 +1,5 @@
 -- `builder::PathBuilder::drawn` meets its contract. Assumes nothing.
-use Rattle.builder.proofs.Lays.{lead-few, reply-as, drawn-as}
+use Rattle.builder.proofs.Lays.{lead-few, drawn-as}
 use mathlib.Core.Path.{_∙_}
 use native.Mathlib.Omega.{arith}
 use borrow.Author.Needs.{needs}
@@ -12,19 +12,19 @@ lead-of-requires c κs = search needs
 start-requires : tie.Need-start-requires
 start-requires c κs = search needs
 
-add-after : tie.Need-add-after
-add-after c = omega (arith, c .before .lead-of .ensures, lead-few (c .before .before .args .self .started), c .before .before .pre .0)
+add-settle : tie.Need-add-settle
+add-settle c = omega (arith, c .before .lead-of .ensures, lead-few (c .before .before .args .self .started), c .before .before .pre .0)
 
-add-after-2 : tie.Need-add-after-2
-add-after-2 c = omega (arith, c .before .lead-of .ensures, lead-few (c .before .before .args .self .started), c .before .before .pre .1)
+add-settle-2 : tie.Need-add-settle-2
+add-settle-2 c = omega (arith, c .before .lead-of .ensures, lead-few (c .before .before .args .self .started), c .before .before .pre .1)
 
-after-requires : tie.Need-after-requires
-after-requires c κs = λ e. let d = c .before .lead-of .ensures in let r = c .before .before .pre .2 e in (omega (arith, d, r .0), omega (arith, d, r .1))
+settle-requires : tie.Need-settle-requires
+settle-requires c κs = λ e. let d = c .before .lead-of .ensures in let r = c .before .before .pre .2 e in (omega (arith, d, r .0), omega (arith, d, r .1))
 
 returns : tie.Need-returns
-returns c = let a = c .before .before .before .args in reply-as _ _ _ _ (c .after .ensures ∙ drawn-as (a .n) (a .self) (a .v) (a .k) (a .p) (c .before .before .lead-of .ensures) (c .before .start .ensures))
+returns c = let a = c .before .before .before .args in c .settle .ensures ∙ drawn-as (a .n) (a .quads) (a .self) (a .v) (a .k) (a .p) (c .before .before .lead-of .ensures) (c .before .start .ensures)
 
 pub drawn-spec : {M : Type 1} → statement M
 drawn-spec =
     tie.close
-    (tie.spec lead-of-requires start-requires add-after add-after-2 after-requires returns)
+    (tie.spec lead-of-requires start-requires add-settle add-settle-2 settle-requires returns)

@@ -3,7 +3,7 @@ use Rattle.path.specs.declared.Segment.the-variants.{Move}
 use mathlib.Core.List.{[], _∷_}
 use Rattle.builder.specs.Call.{lays}
 use Rattle.builder.specs.Build.{called, quadsLaid, steps}
-use Rattle.builder.proofs.Lays.{replied, reply-as, begun-one}
+use Rattle.builder.proofs.Lays.{replied, begun-one}
 use Rattle.builder.proofs.Laws.{refusal-room, unless-same}
 use mathlib.Core.Path.{sym, _∙_}
 use native.Mathlib.Omega.{arith}
@@ -17,8 +17,8 @@ refused-requires c κs = search needs
 put-one-requires : tie.Need-put-one-requires
 put-one-requires c κs = λ e. let r = refusal-room _ _ _ _ _ (sym (c .before .before .refused .ensures) ∙ e) in (omega (arith, r .verbs), omega (arith, r .points))
 
-after-requires : tie.Need-after-requires
-after-requires c κs = λ e. let r = refusal-room _ _ _ _ _ (sym (c .before .before .before .before .before .before .before .refused .ensures) ∙ e) in (omega (arith, r .few-verbs), omega (arith, r .few-points))
+settle-requires : tie.Need-settle-requires
+settle-requires c κs = λ e. let r = refusal-room _ _ _ _ _ (sym (c .before .before .before .before .before .before .before .refused .ensures) ∙ e) in (omega (arith, r .few-verbs), omega (arith, r .few-points))
 
 same-length : tie.Need-same-length
 same-length c = search needs
@@ -32,9 +32,9 @@ returns c =
     let p = c .before .before .before .before .before .put-one .ensures in
     let n = c .before .before .before .before .before .before .before .before .refused .result in
     let b = c .before .before .before .before .before .before .before .before .before .before .before .args .self in
-    replied 0 b _ _ (Move _ ∷ []) n (c .before .before .before .before .before .before .before .before .refused .ensures) (reply-as n 0 b _ (c .after .ensures)) (unless-same n 0) (begun-one n b _ _ _ (p .0) (p .1))
+    replied 0 b _ _ (Move _ ∷ []) n (c .before .before .before .before .before .before .before .before .refused .ensures) (c .settle .ensures) (unless-same n 0) (begun-one n b _ _ _ (p .0) (p .1))
 
 pub move-to-spec : {M : Type 1} → statement M
 move-to-spec =
     tie.close
-    (tie.spec refused-requires put-one-requires after-requires same-length same-length-2 returns)
+    (tie.spec refused-requires put-one-requires settle-requires same-length same-length-2 returns)
