@@ -76,12 +76,12 @@ drawn-points d (Cut a z ∷ es) = downTo-points d a z (drawn false es) (drawn-po
 drawn-points d (Reach a c ∷ es) = downTo-points d a c (drawn true es) (drawn-points true es)
 drawn-points d (Pass c ∷ es) = drawn-points false es
 
+points-behind : (a b : List Segment) → length (allPoints a) ≡ length a → length (allPoints b) ≡ length b → length (allPoints (a ++ b)) ≡ length (a ++ b)
+points-behind a b p q = rw (allPoints-append, length-append, length-append, p, q)
+
 pub walk-points : (cs : List Float) (start : Pos) (ps : List (List Vec2)) → length (allPoints (walkAll cs start ps)) ≡ length (walkAll cs start ps)
 walk-points cs start [] = refl
-walk-points cs start (p ∷ ps) =
-    let a = drawn false (walkPolyline cs start p) in
-    let b = walkAll cs start ps in
-    rw (allPoints-append, length-append, length-append, drawn-points, walk-points cs start ps)
+walk-points cs start (p ∷ ps) = points-behind (drawn false (walkPolyline cs start p)) _ (drawn-points false (walkPolyline cs start p)) (walk-points cs _ ps)
 
 -- ---- room
 

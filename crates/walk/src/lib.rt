@@ -305,13 +305,16 @@ fn lay_stroke(verbs: &mut [u8], floats: &mut [f32], tip: Tip, a: Vec2, z: Vec2) 
     lay(verbs, floats, next, 1, z)
 }
 
-// Lays what an event draws.
+// Lays what an event draws. The tip is made anew from its fields in each arm: a copy of the whole struct would go through memory.
 fn put(verbs: &mut [u8], floats: &mut [f32], tip: Tip, e: Event) -> Tip
     requires { ⌜ Room (length (now verbs)) (length (now floats)) (layEvent (sheet (now verbs) (now floats) tip) e .page) ⌝ }
     ensures { λ r. ⌜ sheet (now (verbs .exit)) (now (floats .exit)) r ≡ layEvent (sheet (now (verbs .entry)) (now (floats .entry)) tip) e ⌝ }
 {
     match e {
-        Event::Nothing => tip,
+        Event::Nothing => Tip {
+            at: tip.at,
+            down: tip.down,
+        },
         Event::Cut(a, z) => {
             let at = lay_stroke(verbs, floats, tip, a, z);
             Tip { at, down: false }
