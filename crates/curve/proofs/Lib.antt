@@ -1,3 +1,2 @@
 pub mod Bends
 pub mod Numbers
-pub mod Examples

@@ -3,4 +3,3 @@ pub mod Caps
 pub mod Scratch
 pub mod Answers
 pub mod Runs
-pub mod Examples

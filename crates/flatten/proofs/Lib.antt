@@ -8,4 +8,3 @@ pub mod Counts
 pub mod Ends
 pub mod Kept
 pub mod Source
-pub mod Examples
