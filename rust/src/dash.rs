@@ -1,0 +1,119 @@
+//! Dashing: a path cut into the drawn pieces of a pattern.
+use crate::ffi;
+use crate::flatten::{Polylines, Size};
+use crate::path::{floats_mut, FillRule, Path, Vec2, MAX_VERBS};
+use crate::refusal::Refusal;
+
+/// The most intervals of a pattern.
+pub const MAX_INTERVALS: usize = 64;
+
+/// A dash pattern: lengths that alternate drawn and skipped, starting drawn, and how far into the pattern a polyline starts.
+#[derive(Debug, Clone, PartialEq)]
+pub struct Dash {
+    pub intervals: Vec<f32>,
+    pub phase: f32,
+}
+
+impl Dash {
+    pub fn new(intervals: Vec<f32>, phase: f32) -> Dash {
+        Dash { intervals, phase }
+    }
+
+    /// Whether this pattern can be walked: intervals finite and 0 or more, at least one, with a sum above 0, and a finite phase.
+    ///
+    /// ```
+    /// use hizlaou::Dash;
+    /// assert!(Dash::new(vec![2.0, 1.0], 0.0).is_usable());
+    /// assert!(!Dash::new(vec![], 0.0).is_usable());
+    /// assert!(!Dash::new(vec![2.0, -1.0], 0.0).is_usable());
+    /// ```
+    pub fn is_usable(&self) -> bool {
+        // SAFETY: the intervals are only read.
+        unsafe { ffi::hz_is_usable(self.intervals.as_ptr(), self.intervals.len(), self.phase) }
+    }
+}
+
+/// What dashing gives.
+#[derive(Debug, Clone, PartialEq)]
+pub enum Dashed {
+    /// The pattern doesn't cut: the path is drawn as it is.
+    Whole,
+    /// The drawn runs as a path of moves and lines, with the path's fill rule and no note, and the polylines that were walked.
+    Cut { path: Path, polylines: Polylines },
+}
+
+impl Dashed {
+    /// The outline to draw: the path itself where it is drawn whole, else the cut one.
+    pub fn outline<'a>(&'a self, whole: &'a Path) -> &'a Path {
+        match self {
+            Dashed::Whole => whole,
+            Dashed::Cut { path, .. } => path,
+        }
+    }
+}
+
+/// Cuts a path into the drawn pieces of a pattern. Refused with 8 over 64 intervals, with 3 over 65,536 verbs of dashes.
+///
+/// ```
+/// # fn main() -> Result<(), hizlaou::Refusal> {
+/// use hizlaou::{dash_path, Dash, Dashed, PathBuilder, Vec2};
+/// let mut b = PathBuilder::new();
+/// b.move_to(Vec2::ZERO)?.line_to(Vec2::new(8.0, 0.0))?;
+/// let line = b.build();
+/// let Dashed::Cut { path, .. } = dash_path(&line, &Dash::new(vec![2.0, 1.0], 0.0), 0.25)? else { panic!() };
+/// let xs: Vec<f32> = path.points().iter().map(|p| p.x).collect();
+/// assert_eq!(xs, [0.0, 2.0, 3.0, 5.0, 6.0, 8.0]);
+/// assert_eq!(dash_path(&line, &Dash::new(vec![0.125, 0.125], 0.0), 0.25)?, Dashed::Whole);
+/// # Ok(()) }
+/// ```
+pub fn dash_path(path: &Path, dash: &Dash, tolerance: f32) -> Result<Dashed, Refusal> {
+    let size = Size::of(path, tolerance);
+    let (mut scratch, mut ends) = size.buffers();
+    // Every dash verb uses one point, so the limit on verbs binds first. Memory that isn't written to isn't taken up.
+    let (mut verbs, mut points) = (vec![0u8; MAX_VERBS], vec![Vec2::ZERO; MAX_VERBS]);
+    let (s, s_len) = floats_mut(&mut scratch);
+    let (d, d_len) = floats_mut(&mut points);
+    // SAFETY: path and pattern are only read; the four outputs are lent for the call with their own lengths.
+    let r = path.ask(|v, l, p, m| unsafe {
+        ffi::hz_dash_path(
+            v,
+            l,
+            p,
+            m,
+            path.fill_rule().byte(),
+            dash.intervals.as_ptr(),
+            dash.intervals.len(),
+            dash.phase,
+            tolerance,
+            s,
+            s_len,
+            ends.as_mut_ptr(),
+            ends.len(),
+            verbs.as_mut_ptr(),
+            verbs.len(),
+            d,
+            d_len,
+        )
+    });
+    Refusal::check(r.refused)?;
+    if r.kind == 0 {
+        return Ok(Dashed::Whole);
+    }
+    points.truncate(r.points);
+    points.shrink_to_fit();
+    let path = Path::of_dash(&verbs[..r.verbs], points, FillRule::of(r.fill_rule));
+    Ok(Dashed::Cut { path, polylines: size.filled(scratch, ends, r.scratch, r.polylines) })
+}
+
+/// The intervals of a line style, 0 to 8; style 0 has none. Refused with 9 over 8.
+///
+/// ```
+/// assert_eq!(hizlaou::line_style(4), Ok(vec![12.0, 4.0, 2.0, 4.0]));
+/// assert_eq!(hizlaou::line_style(0), Ok(vec![]));
+/// ```
+pub fn line_style(number: usize) -> Result<Vec<f32>, Refusal> {
+    // SAFETY: values only.
+    let style = unsafe { ffi::hz_line_style(number) };
+    Refusal::check(style.refused)?;
+    Ok(style.values[..style.len].to_vec())
+}

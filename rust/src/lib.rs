@@ -1,0 +1,34 @@
+//! Outlines, polylines and dashes: a safe interface to the proved library.
+//!
+//! Every answer is the library's: each call ends on every input, NaN and infinities included, and equals its definition bit for bit. Where a call
+//! can be refused it gives a [`Refusal`] with the number of the refusal, and has changed nothing.
+//!
+//! It links `target/staticlib/libcapi.a`, which `rt staticlib capi` makes.
+//!
+//! ```
+//! # fn main() -> Result<(), hizlaou::Refusal> {
+//! use hizlaou::*;
+//! let mut b = PathBuilder::new().with_fill_rule(FillRule::EvenOdd);
+//! b.move_to(Vec2::new(0.0, 0.0))?.cubic_to(Vec2::new(0.0, 8.0), Vec2::new(16.0, 8.0), Vec2::new(16.0, 0.0))?.close()?;
+//! let path = b.build();
+//! for polyline in flatten(&path, DEFAULT_TOLERANCE)?.iter() {
+//!     println!("{polyline:?}");
+//! }
+//! let dashes = dash_path(&path, &Dash::new(line_style(3)?, 0.0), DEFAULT_TOLERANCE)?;
+//! println!("{} verbs", dashes.outline(&path).verbs().len());
+//! # Ok(()) }
+//! ```
+
+mod dash;
+mod ffi;
+mod flatten;
+mod path;
+mod refusal;
+
+pub use dash::{dash_path, line_style, Dash, Dashed, MAX_INTERVALS};
+pub use flatten::{
+    carried_count, cubic_segment_count, eval_cubic, eval_quad, flatten, quad_segment_count, segment_count, sqrt, tolerance_for_scale, Polylines,
+    Totals, DEFAULT_TOLERANCE, MAX_SEGMENTS,
+};
+pub use path::{polygon_convexity, Convexity, FillRule, Path, PathBuilder, Rect, Vec2, Verb, MAX_POINTS, MAX_VERBS};
+pub use refusal::Refusal;
