@@ -16,6 +16,7 @@ use path::Step;
 use vec2::Vec2;
 
 // The answer: the totals and the refusal's number, 0 for none. In a refusal the totals are all 0.
+#[repr(C)]
 pub struct Flattened {
     pub points: usize,
     pub polylines: usize,
@@ -27,6 +28,7 @@ pub struct Flattened {
 }
 
 // A carried count, or the refusal's number beside a 0.
+#[repr(C)]
 pub struct Carried {
     pub count: usize,
     pub refused: u8,

@@ -16,6 +16,7 @@ pub enum FillRule {
 }
 
 // An axis-aligned bounding box.
+#[repr(C)]
 pub struct Rect {
     pub min: Vec2,
     pub max: Vec2,

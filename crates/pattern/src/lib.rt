@@ -37,6 +37,7 @@ const STYLES: [[f32; 6]; 9] = [
 const STYLE_LENGTHS: [usize; 9] = [0, 2, 2, 2, 4, 6, 1, 3, 2];
 
 // A line style: its intervals are the first `len` of `values`, the others 0. `refused` is 9 for a style over 8.
+#[repr(C)]
 pub struct LineStyle {
     pub values: [f32; 64],
     pub len: usize,

@@ -2,6 +2,7 @@
 ghost use mathlib.Core.Path.{_≡_};
 ghost use Rattle.vec2.specs.Vec2.{vec, origin, _⊕_, _⊖_, _⊙_, _⊘_, len, perpDot, minimum, maximum, absOf, maxElement, anyNan, allFinite, sameAs};
 
+#[repr(C)]
 pub struct Vec2 {
     pub x: f32,
     pub y: f32,
