@@ -1,8 +1,8 @@
-//! The C interface, as include/hizlaou.h has it. A slice goes as its first element and its length; a length of 0 takes any pointer.
-#![allow(dead_code)]
+//! The C interface, as include/hizlaou.h has it, for callers that lend their own buffers. A slice goes as a pointer to its first element and its
+//! length in elements; with a length of 0 the pointer isn't read. Calls are unsafe for these pointers alone.
 use crate::path::{Rect, Vec2};
 
-/// A builder's state.
+/// A builder's state. A `fill_rule` of 0 is the non-zero rule; `noted` and `started` are false where 0.
 #[repr(C)]
 #[derive(Clone, Copy, Debug, PartialEq)]
 pub struct Builder {
@@ -75,7 +75,7 @@ pub struct Bounds {
 #[repr(C)]
 #[derive(Clone, Copy, Debug)]
 pub struct Answer {
-    pub holds: u8,
+    pub holds: bool,
     pub refused: u8,
 }
 
@@ -108,6 +108,14 @@ pub struct Dashed {
     pub refused: u8,
 }
 
+/// The first `floats` floats of the dash buffer (`from_dash` 1) or of the path's.
+#[repr(C)]
+#[derive(Clone, Copy, Debug)]
+pub struct Outline {
+    pub floats: usize,
+    pub from_dash: u8,
+}
+
 extern "C" {
     pub fn hz_sqrt(x: f32) -> f32;
     pub fn hz_segment_count(squared: f32) -> u32;
@@ -122,11 +130,11 @@ extern "C" {
     pub fn hz_as_rounded_rect(state: Builder, rect: Rect, radius: f32) -> Builder;
     pub fn hz_current_point(state: Builder) -> CurrentPoint;
     pub fn hz_rounded_rect(state: Builder) -> Note;
-    pub fn hz_move_to(state: Builder, p: Vec2, verbs: *mut u8, verbs_len: usize, points: *mut f32, points_len: usize) -> Reply;
-    pub fn hz_line_to(state: Builder, p: Vec2, verbs: *mut u8, verbs_len: usize, points: *mut f32, points_len: usize) -> Reply;
-    pub fn hz_quad_to(state: Builder, c: Vec2, p: Vec2, verbs: *mut u8, verbs_len: usize, points: *mut f32, points_len: usize) -> Reply;
-    pub fn hz_conic_to(state: Builder, c: Vec2, p: Vec2, weight: f32, verbs: *mut u8, verbs_len: usize, points: *mut f32, points_len: usize) -> Reply;
-    pub fn hz_cubic_to(state: Builder, c: Vec2, d: Vec2, p: Vec2, verbs: *mut u8, verbs_len: usize, points: *mut f32, points_len: usize) -> Reply;
+    pub fn hz_move_to(state: Builder, verbs: *mut u8, verbs_len: usize, points: *mut f32, points_len: usize, p: Vec2) -> Reply;
+    pub fn hz_line_to(state: Builder, verbs: *mut u8, verbs_len: usize, points: *mut f32, points_len: usize, p: Vec2) -> Reply;
+    pub fn hz_quad_to(state: Builder, verbs: *mut u8, verbs_len: usize, points: *mut f32, points_len: usize, ctrl: Vec2, to: Vec2) -> Reply;
+    pub fn hz_conic_to(state: Builder, verbs: *mut u8, verbs_len: usize, points: *mut f32, points_len: usize, ctrl: Vec2, to: Vec2, weight: f32) -> Reply;
+    pub fn hz_cubic_to(state: Builder, verbs: *mut u8, verbs_len: usize, points: *mut f32, points_len: usize, c0: Vec2, c1: Vec2, to: Vec2) -> Reply;
     pub fn hz_close(state: Builder, verbs: *mut u8, verbs_len: usize, points: *mut f32, points_len: usize) -> Reply;
 
     pub fn hz_check(verbs: *const u8, verbs_len: usize, points: *const f32, points_len: usize) -> u8;
@@ -153,6 +161,7 @@ extern "C" {
     pub fn hz_polygon_convexity(points: *const f32, points_len: usize) -> Verdict;
     pub fn hz_is_usable(intervals: *const f32, intervals_len: usize, phase: f32) -> bool;
     pub fn hz_line_style(number: usize) -> LineStyle;
+    pub fn hz_drawn_outline(path: *const f32, path_len: usize, points: usize, dash: *const f32, dash_len: usize, answer: Dashed) -> Outline;
     pub fn hz_dash_path(
         verbs: *const u8,
         verbs_len: usize,

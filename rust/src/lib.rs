@@ -20,7 +20,7 @@
 //! ```
 
 mod dash;
-mod ffi;
+pub mod ffi;
 mod flatten;
 mod path;
 mod refusal;

@@ -260,7 +260,7 @@ impl Path {
         // SAFETY: verbs and points are only read.
         let r = self.ask(|v, n, p, m| unsafe { ffi::hz_is_finite(v, n, p, m) });
         debug_assert_eq!(r.refused, 0, "a path is checked when it is made");
-        r.holds != 0
+        r.holds
     }
 
     /// Whether |x| and |y| are at most 16,777,216 at every point.
@@ -268,7 +268,7 @@ impl Path {
         // SAFETY: verbs and points are only read.
         let r = self.ask(|v, n, p, m| unsafe { ffi::hz_is_within_tessellation_range(v, n, p, m) });
         debug_assert_eq!(r.refused, 0, "a path is checked when it is made");
-        r.holds != 0
+        r.holds
     }
 
     /// Whether the path is convex: Concave for any curve or a second move.
@@ -380,19 +380,19 @@ impl PathBuilder {
     /// Starts a subpath.
     pub fn move_to(&mut self, p: Vec2) -> Result<&mut PathBuilder, Refusal> {
         // SAFETY: both buffers are lent for the call with their own lengths.
-        self.call(1, 1, |b, v, n, f, m| unsafe { ffi::hz_move_to(b, p, v, n, f, m) })
+        self.call(1, 1, |b, v, n, f, m| unsafe { ffi::hz_move_to(b, v, n, f, m, p) })
     }
 
     /// A line from the pen; from (0, 0) on an empty builder.
     pub fn line_to(&mut self, p: Vec2) -> Result<&mut PathBuilder, Refusal> {
         // SAFETY: both buffers are lent for the call with their own lengths.
-        self.call(2, 2, |b, v, n, f, m| unsafe { ffi::hz_line_to(b, p, v, n, f, m) })
+        self.call(2, 2, |b, v, n, f, m| unsafe { ffi::hz_line_to(b, v, n, f, m, p) })
     }
 
     /// A quadratic curve from the pen.
     pub fn quad_to(&mut self, ctrl: Vec2, to: Vec2) -> Result<&mut PathBuilder, Refusal> {
         // SAFETY: both buffers are lent for the call with their own lengths.
-        self.call(2, 3, |b, v, n, f, m| unsafe { ffi::hz_quad_to(b, ctrl, to, v, n, f, m) })
+        self.call(2, 3, |b, v, n, f, m| unsafe { ffi::hz_quad_to(b, v, n, f, m, ctrl, to) })
     }
 
     /// A conic from the pen, as at most 64 quads, or as one line where the weight, the control point or the end describe no curve.
@@ -410,13 +410,13 @@ impl PathBuilder {
     /// ```
     pub fn conic_to(&mut self, ctrl: Vec2, to: Vec2, weight: f32) -> Result<&mut PathBuilder, Refusal> {
         // SAFETY: both buffers are lent for the call with their own lengths.
-        self.call(65, 129, |b, v, n, f, m| unsafe { ffi::hz_conic_to(b, ctrl, to, weight, v, n, f, m) })
+        self.call(65, 129, |b, v, n, f, m| unsafe { ffi::hz_conic_to(b, v, n, f, m, ctrl, to, weight) })
     }
 
     /// A cubic curve from the pen.
     pub fn cubic_to(&mut self, c0: Vec2, c1: Vec2, to: Vec2) -> Result<&mut PathBuilder, Refusal> {
         // SAFETY: both buffers are lent for the call with their own lengths.
-        self.call(2, 4, |b, v, n, f, m| unsafe { ffi::hz_cubic_to(b, c0, c1, to, v, n, f, m) })
+        self.call(2, 4, |b, v, n, f, m| unsafe { ffi::hz_cubic_to(b, v, n, f, m, c0, c1, to) })
     }
 
     /// Closes the subpath: the pen returns to the latest move's point. Nothing on an empty builder.

@@ -1,0 +1,244 @@
+//! Random cases: floats of every kind, lists of builder calls, patterns, tolerances, and which buffers are lent.
+use std::fmt::Write;
+
+pub struct Rng(u64);
+
+impl Rng {
+    /// Case `number` of a seed has numbers of its own, so that each can be tried again alone.
+    pub fn new(seed: u64, number: u64) -> Rng {
+        let mut r = Rng(seed);
+        r.0 = r.next() ^ number.wrapping_mul(0xd6e8_feb8_6659_fd93);
+        r.next();
+        r
+    }
+    pub fn next(&mut self) -> u64 {
+        self.0 = self.0.wrapping_add(0x9e37_79b9_7f4a_7c15);
+        let mut z = self.0;
+        z = (z ^ (z >> 30)).wrapping_mul(0xbf58_476d_1ce4_e5b9);
+        z = (z ^ (z >> 27)).wrapping_mul(0x94d0_49bb_1331_11eb);
+        z ^ (z >> 31)
+    }
+    pub fn below(&mut self, n: u64) -> u64 {
+        self.next() % n
+    }
+    pub fn one_in(&mut self, n: u64) -> bool {
+        self.below(n) == 0
+    }
+    fn of(&mut self, words: &[u32]) -> f32 {
+        f32::from_bits(words[self.below(words.len() as u64) as usize])
+    }
+    pub fn any(&mut self) -> f32 {
+        if self.one_in(3) {
+            self.of(SPECIAL)
+        } else {
+            f32::from_bits(self.next() as u32)
+        }
+    }
+}
+
+pub type Point = [f32; 2];
+
+#[derive(Clone, Copy, Debug)]
+pub enum Call {
+    Move(Point),
+    Line(Point),
+    Quad(Point, Point),
+    Conic(Point, Point, f32),
+    Cubic(Point, Point, Point),
+    Close,
+    Rule(u8),
+    Note(Point, Point, f32),
+}
+
+#[derive(Clone)]
+pub struct Case {
+    pub tolerance: f32,
+    pub scale: f32,
+    pub phase: f32,
+    pub intervals: Vec<f32>,
+    pub calls: Vec<Call>,
+    /// Decides lengths of buffers, damage and questions.
+    pub seed: u64,
+}
+
+/// How wild the coordinates of a case are: chosen once for a case, so that tame shapes occur whole.
+#[derive(Clone, Copy)]
+enum Kind {
+    Whole,
+    Small,
+    Fine,
+    Spread,
+    Wild,
+}
+
+const SPECIAL: &[u32] = &[
+    0, 0x8000_0000, 1, 0x8000_0001, 0x007f_ffff, 0x807f_ffff, 0x0080_0000, 0x8080_0000, 0x7f80_0000, 0xff80_0000, 0x7fc0_0000, 0xffc0_0000,
+    0x7f80_0001, 0x7fab_cdef, 0xff92_3456, 0x7f7f_ffff, 0xff7f_ffff, 0x3f80_0000, 0xbf80_0000, 0x4b80_0000, 0x4b80_0001, 0xcb80_0000,
+    0xcb80_0001, 0x4b7f_ffff, 0x3400_0000, 0x3f80_0001, 0x3f7f_ffff, 0x5f80_0000, 0x1f80_0000, 0x3e80_0000,
+];
+
+fn coordinate(r: &mut Rng, k: Kind) -> f32 {
+    let sign = (r.next() as u32 & 1) << 31;
+    match k {
+        Kind::Whole => r.below(9) as f32 - 2.0,
+        Kind::Small if r.one_in(12) => f32::from_bits(sign),
+        Kind::Small => (r.below(4001) as f32 - 2000.0) / 8.0,
+        Kind::Fine => f32::from_bits((0x3780_0000 + (r.next() as u32 % 0x0d00_0000)) | sign),
+        Kind::Spread => f32::from_bits((r.next() as u32) % 0x7f80_0000 | sign),
+        Kind::Wild => r.any(),
+    }
+}
+
+fn point(r: &mut Rng, k: Kind, seen: &mut Vec<Point>) -> Point {
+    if !seen.is_empty() && r.one_in(4) {
+        let mut p = seen[r.below(seen.len() as u64) as usize];
+        // the same point by value
+        if r.one_in(4) {
+            p = p.map(|v| if v == 0.0 { -v } else { v });
+        }
+        return p;
+    }
+    let k = if r.one_in(40) { Kind::Wild } else { k };
+    let p = [coordinate(r, k), coordinate(r, k)];
+    seen.push(p);
+    p
+}
+
+fn weight(r: &mut Rng) -> f32 {
+    match r.below(10) {
+        0 => r.of(SPECIAL),
+        1 => f32::from_bits(r.next() as u32),
+        2 => f32::from_bits(0x3f7f_be77 - 50 + r.below(100) as u32), // near 1 - 0.001
+        3 => f32::from_bits(0x3f80_20c5 - 50 + r.below(100) as u32), // near 1 + 0.001
+        4 => r.of(&[0x3f35_04f3, 0x3f00_0000, 0x4105_0000, 0x42c8_0000]),
+        5 => f32::from_bits((r.next() as u32) % 0x7f80_0000),
+        _ => r.below(1000) as f32 / 64.0,
+    }
+}
+
+fn tolerance(r: &mut Rng) -> f32 {
+    match r.below(16) {
+        0 => r.of(SPECIAL),
+        1 => f32::from_bits(r.next() as u32),
+        2 => f32::from_bits((r.next() as u32) % 0x0100_0000),
+        3 => 0.0,
+        4 => f32::from_bits(0x3000_0000 + (r.next() as u32 % 0x0f00_0000)),
+        5..=8 => r.below(64) as f32 / 16.0,
+        _ => 0.25,
+    }
+}
+
+fn interval(r: &mut Rng, kind: u64) -> f32 {
+    match kind {
+        0 => r.below(12) as f32,
+        1 => r.below(48) as f32 / 8.0,
+        2 => f32::from_bits(0x3c00_0000 + (r.next() as u32 % 0x0800_0000)),
+        3 => f32::from_bits((r.next() as u32) % 0x7f80_0000),
+        4 => r.of(&[0, 0x8000_0000, 1, 0x3f80_0000, 0x0080_0000, 0x7f7f_ffff, 0x4000_0000]),
+        _ if r.one_in(6) => r.of(SPECIAL),
+        _ => r.below(40) as f32 / 4.0,
+    }
+}
+
+pub fn call(r: &mut Rng, kind: u64, seen: &mut Vec<Point>) -> Call {
+    let k = [Kind::Whole, Kind::Whole, Kind::Small, Kind::Small, Kind::Fine, Kind::Spread, Kind::Wild][kind as usize % 7];
+    let mut p = |r: &mut Rng| point(r, k, seen);
+    match r.below(20) {
+        0..=2 => Call::Move(p(r)),
+        3..=7 => Call::Line(p(r)),
+        8..=10 => Call::Quad(p(r), p(r)),
+        11..=12 => Call::Conic(p(r), p(r), weight(r)),
+        13..=15 => Call::Cubic(p(r), p(r), p(r)),
+        16..=17 => Call::Close,
+        18 => Call::Rule(if r.one_in(4) { r.below(256) as u8 } else { r.below(2) as u8 }),
+        _ => {
+            let radius = if r.one_in(3) { r.any() } else { coordinate(r, k) };
+            Call::Note(p(r), p(r), radius)
+        }
+    }
+}
+
+/// A random case with at most `long` calls where it is a long one: one in sixteen.
+pub fn random(r: &mut Rng, long: u64) -> Case {
+    let kind = r.below(7);
+    let n = match r.below(16) {
+        0 => r.below(long + 1),
+        1..=3 => r.below(12),
+        _ => r.below(6),
+    };
+    // move, lines, close: where convexity is decided
+    let polygon = r.one_in(4);
+    let mut seen = Vec::new();
+    let mut calls = Vec::new();
+    for i in 0..n {
+        let c = call(r, kind, &mut seen);
+        calls.push(match c {
+            Call::Move(p) | Call::Line(p) | Call::Quad(p, _) | Call::Conic(p, ..) | Call::Cubic(p, ..) if polygon => {
+                if i == 0 {
+                    Call::Move(p)
+                } else {
+                    Call::Line(p)
+                }
+            }
+            c => c,
+        });
+    }
+    let kind = r.below(6);
+    let m = match r.below(8) {
+        0 => r.below(65),
+        1 => r.below(2),
+        _ => 1 + r.below(6),
+    };
+    let intervals = (0..m).map(|_| interval(r, kind)).collect();
+    let phase = match r.below(8) {
+        0 => r.of(SPECIAL),
+        1 => f32::from_bits(r.next() as u32),
+        2 => -(r.below(400) as f32) / 8.0,
+        3 | 4 => r.below(400) as f32 / 8.0,
+        _ => 0.0,
+    };
+    Case { tolerance: tolerance(r), scale: r.any(), phase, intervals, calls, seed: r.next() }
+}
+
+/// A case as text, floats as 8 hexadecimal digits.
+pub fn text(c: &Case) -> String {
+    let mut s = String::new();
+    let f = |s: &mut String, xs: &[f32]| xs.iter().for_each(|x| write!(s, " {:08x}", x.to_bits()).unwrap());
+    s += "tolerance, scale, phase";
+    f(&mut s, &[c.tolerance, c.scale, c.phase]);
+    write!(s, "; {} intervals", c.intervals.len()).unwrap();
+    f(&mut s, &c.intervals);
+    s.push(';');
+    for call in &c.calls {
+        match call {
+            Call::Move(p) => {
+                s += " move";
+                f(&mut s, p)
+            }
+            Call::Line(p) => {
+                s += " line";
+                f(&mut s, p)
+            }
+            Call::Quad(a, p) => {
+                s += " quad";
+                f(&mut s, &[*a, *p].concat())
+            }
+            Call::Conic(a, p, w) => {
+                s += " conic";
+                f(&mut s, &[a[0], a[1], p[0], p[1], *w])
+            }
+            Call::Cubic(a, b, p) => {
+                s += " cubic";
+                f(&mut s, &[*a, *b, *p].concat())
+            }
+            Call::Close => s += " close",
+            Call::Rule(n) => write!(s, " rule {n}").unwrap(),
+            Call::Note(a, b, r) => {
+                s += " note";
+                f(&mut s, &[a[0], a[1], b[0], b[1], *r])
+            }
+        }
+    }
+    write!(s, "; seed {}", c.seed).unwrap();
+    s
+}

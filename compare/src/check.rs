@@ -1,0 +1,808 @@
+//! One case through both sides: every answer and every buffer of the library against the Rust source and the numbers.
+use crate::case::{self, Call, Case, Point, Rng};
+use crate::numbers;
+use hizlaou::ffi::{self, Builder};
+use hizlaou::Vec2 as Pt;
+use source::dash::{dash_path, Dash};
+use source::flatten::{self as curves, flatten};
+use source::path::{polygon_convexity, Convexity, FillRule, Path, PathBuilder, Rect, Verb};
+use source::Vec2;
+use std::fmt::Debug;
+use std::sync::atomic::{AtomicU64, Ordering};
+
+/// The question in which the sides differ, and how.
+pub type Differs = (String, String);
+type Checked = Result<(), Differs>;
+
+static SEEN: [AtomicU64; 16] = [const { AtomicU64::new(0) }; 16];
+const NAMES: [&str; 16] = [
+    "", "refusals 1", "2", "3", "4", "5", "6", "7", "8", "9", "drawn whole", "cut", "not dashed (too many intervals for the reference)", "builder calls",
+    "conics split", "damaged paths",
+];
+
+fn seen(what: usize) {
+    SEEN[what].fetch_add(1, Ordering::Relaxed);
+}
+
+/// What the cases came to.
+pub fn counted() -> String {
+    (1..16).map(|i| format!("{} {}", NAMES[i], SEEN[i].load(Ordering::Relaxed))).collect::<Vec<_>>().join(", ")
+}
+
+fn equal<T: PartialEq + Debug>(question: &str, got: T, want: T) -> Checked {
+    if got == want {
+        return Ok(());
+    }
+    let cut = |t: T| format!("{t:x?}").chars().take(300).collect::<String>();
+    Err((question.into(), format!("library {}, source {}", cut(got), cut(want))))
+}
+
+/// A refusal's number, counted.
+fn refused(question: &str, got: u8, want: u8) -> Checked {
+    if want != 0 {
+        seen(want as usize);
+    }
+    equal(question, got, want)
+}
+
+fn bits(x: f32) -> u32 {
+    x.to_bits()
+}
+
+/// A computed float: NaNs compare as NaN.
+fn computed(question: &str, got: f32, want: f32) -> Checked {
+    if got.is_nan() && want.is_nan() {
+        return Ok(());
+    }
+    equal(question, bits(got), bits(want))
+}
+
+fn v2(p: Point) -> Vec2 {
+    Vec2::new(p[0], p[1])
+}
+
+fn pt(p: Point) -> Pt {
+    Pt::new(p[0], p[1])
+}
+
+fn xy(p: Vec2) -> Pt {
+    Pt::new(p.x, p.y)
+}
+
+fn rect(r: Rect) -> hizlaou::Rect {
+    hizlaou::Rect::new(xy(r.min), xy(r.max))
+}
+
+fn rect_bits(r: hizlaou::Rect) -> [u32; 4] {
+    [r.min.x, r.min.y, r.max.x, r.max.y].map(bits)
+}
+
+fn byte(v: &Verb) -> u8 {
+    match v {
+        Verb::MoveTo => 0,
+        Verb::LineTo => 1,
+        Verb::QuadTo => 2,
+        Verb::CubicTo => 3,
+        Verb::Close => 4,
+    }
+}
+
+fn bytes(p: &Path) -> Vec<u8> {
+    p.verbs().iter().map(byte).collect()
+}
+
+fn floats<'a>(ps: impl IntoIterator<Item = &'a Vec2>) -> Vec<f32> {
+    ps.into_iter().flat_map(|p| [p.x, p.y]).collect()
+}
+
+fn rule_of(n: u8) -> FillRule {
+    if n == 0 {
+        FillRule::NonZero
+    } else {
+        FillRule::EvenOdd
+    }
+}
+
+// ---- buffers
+
+/// A lent buffer of floats, and what it is to hold: bits, and whether a NaN there is computed.
+struct Floats {
+    lent: Vec<f32>,
+    want: Vec<(u32, bool)>,
+}
+
+const FILL: u32 = 0x7fa5_5a3c;
+
+impl Floats {
+    fn new(len: usize) -> Floats {
+        Floats { lent: vec![f32::from_bits(FILL); len], want: vec![(FILL, false); len] }
+    }
+    fn expect(&mut self, at: usize, values: &[(f32, bool)]) {
+        for (w, (x, c)) in self.want[at..].iter_mut().zip(values) {
+            *w = (bits(*x), *c);
+        }
+    }
+    fn holds(&self, question: &str, from: usize, to: usize) -> Checked {
+        for i in from..to {
+            let (w, computed) = self.want[i];
+            let x = self.lent[i];
+            if bits(x) != w && !(computed && x.is_nan() && f32::from_bits(w).is_nan()) {
+                return Err((question.into(), format!("float {i}: library {:08x}, source {w:08x}", bits(x))));
+            }
+        }
+        Ok(())
+    }
+    fn all(&self, question: &str) -> Checked {
+        self.holds(question, 0, self.lent.len())
+    }
+}
+
+struct Bytes {
+    lent: Vec<u8>,
+    want: Vec<u8>,
+}
+
+impl Bytes {
+    fn new(len: usize) -> Bytes {
+        Bytes { lent: vec![0xa5; len], want: vec![0xa5; len] }
+    }
+    fn all(&self, question: &str) -> Checked {
+        equal(question, &self.lent, &self.want)
+    }
+}
+
+struct Ends {
+    lent: Vec<usize>,
+    want: Vec<usize>,
+}
+
+impl Ends {
+    fn new(len: usize) -> Ends {
+        Ends { lent: vec![usize::MAX / 3; len], want: vec![usize::MAX / 3; len] }
+    }
+    fn all(&self, question: &str) -> Checked {
+        equal(question, &self.lent, &self.want)
+    }
+}
+
+/// Lengths for two outputs that need `a` and `b`: exactly full, ample, one short, and sometimes odd or empty. The first is in floats.
+fn lengths(r: &mut Rng, a: usize, b: usize) -> (usize, usize) {
+    match r.below(12) {
+        0..=3 => (a, b),
+        4..=6 => (a + 6, b + 3),
+        7 => (a.saturating_sub(2), b),
+        8 => (a, b.saturating_sub(1)),
+        9 => (2 * r.below(a as u64 / 2 + 1) as usize, r.below(b as u64 + 1) as usize),
+        10 if r.one_in(2) => (0, 0),
+        10 => (a + 1, b),
+        _ => (a + 2, b + 1),
+    }
+}
+
+// ---- building
+
+fn apply(mut b: PathBuilder, call: &Call) -> PathBuilder {
+    match *call {
+        Call::Move(p) => drop(b.move_to(v2(p))),
+        Call::Line(p) => drop(b.line_to(v2(p))),
+        Call::Quad(c, p) => drop(b.quad_to(v2(c), v2(p))),
+        Call::Conic(c, p, w) => drop(b.conic_to(v2(c), v2(p), w)),
+        Call::Cubic(c, d, p) => drop(b.cubic_to(v2(c), v2(d), v2(p))),
+        Call::Close => drop(b.close()),
+        Call::Rule(n) => return b.with_fill_rule(rule_of(n)),
+        Call::Note(lo, hi, radius) => drop(b.as_rounded_rect(Rect::new(v2(lo), v2(hi)), radius)),
+    }
+    b
+}
+
+/// A state with its bytes as the library returns them.
+fn normal(mut s: Builder) -> Builder {
+    s.fill_rule = u8::from(s.fill_rule != 0);
+    s.noted = u8::from(s.noted != 0);
+    s.started = u8::from(s.started != 0);
+    s
+}
+
+fn state_bits(s: &Builder) -> ([usize; 2], [u32; 9], [u8; 3]) {
+    (
+        [s.verbs, s.points],
+        [s.start_x, s.start_y, s.pen_x, s.pen_y, s.min_x, s.min_y, s.max_x, s.max_y, s.radius].map(bits),
+        [s.fill_rule, s.noted, s.started],
+    )
+}
+
+/// One call on any state over any buffers, against what the source lays from this pen. Answers the state, and whether the call was taken.
+fn step(s: Builder, call: &Call, verbs: &mut Bytes, points: &mut Floats) -> Result<(Builder, bool), Differs> {
+    seen(13);
+    let (nv, nf) = (verbs.lent.len(), points.lent.len());
+    let (v, f) = (verbs.lent.as_mut_ptr(), points.lent.as_mut_ptr());
+    // SAFETY: both buffers are lent with their own lengths.
+    let reply = unsafe {
+        match *call {
+            Call::Move(p) => ffi::hz_move_to(s, v, nv, f, nf, pt(p)),
+            Call::Line(p) => ffi::hz_line_to(s, v, nv, f, nf, pt(p)),
+            Call::Quad(c, p) => ffi::hz_quad_to(s, v, nv, f, nf, pt(c), pt(p)),
+            Call::Conic(c, p, w) => ffi::hz_conic_to(s, v, nv, f, nf, pt(c), pt(p), w),
+            Call::Cubic(c, d, p) => ffi::hz_cubic_to(s, v, nv, f, nf, pt(c), pt(d), pt(p)),
+            Call::Close => ffi::hz_close(s, v, nv, f, nf),
+            Call::Rule(n) => ffi::Reply { state: ffi::hz_with_fill_rule(s, n), quads: 0, refused: 0 },
+            Call::Note(lo, hi, radius) => {
+                let r = hizlaou::Rect::new(pt(lo), pt(hi));
+                ffi::Reply { state: ffi::hz_as_rounded_rect(s, r, radius), quads: 0, refused: 0 }
+            }
+        }
+    };
+    let started = s.started != 0;
+    let mut b = PathBuilder::new();
+    if started {
+        b.move_to(Vec2::new(s.pen_x, s.pen_y));
+    }
+    let b = apply(b, call);
+    let (pen, path) = (b.current_point(), b.build());
+    let skip = usize::from(started);
+    let laid = &bytes(&path)[skip..];
+    let placed = &path.points()[skip..];
+    let mut want = normal(s);
+    match *call {
+        Call::Rule(n) => want.fill_rule = u8::from(n != 0),
+        Call::Note(..) => {
+            let note = path.as_rounded_rect();
+            let (r, radius) = note.unwrap_or((Rect::new(Vec2::ZERO, Vec2::ZERO), 0.0));
+            (want.min_x, want.min_y, want.max_x, want.max_y, want.radius) = (r.min.x, r.min.y, r.max.x, r.max.y, radius);
+            want.noted = u8::from(note.is_some());
+        }
+        _ => {
+            let number = numbers::builder(&s, nv, nf, laid.len(), placed.len());
+            refused("builder refusal", reply.refused, number)?;
+            if number != 0 {
+                equal("builder quads", reply.quads, 0)?;
+                equal("state of a refused call", state_bits(&reply.state), state_bits(&s))?;
+                return Ok((reply.state, false));
+            }
+        }
+    }
+    if !laid.is_empty() {
+        if let Call::Move(p) = *call {
+            (want.start_x, want.start_y) = (p[0], p[1]);
+        } else if !started {
+            (want.start_x, want.start_y) = (0.0, 0.0);
+        }
+        let pen = match call {
+            Call::Close => Vec2::new(s.start_x, s.start_y),
+            _ => pen.expect("something is laid"),
+        };
+        (want.pen_x, want.pen_y) = (pen.x, pen.y);
+        want.started = 1;
+    }
+    want.verbs += laid.len();
+    want.points += placed.len();
+    let quads = if matches!(call, Call::Conic(..)) { laid.iter().filter(|v| **v == 2).count() } else { 0 };
+    if quads > 1 {
+        seen(14);
+    }
+    equal("builder quads", reply.quads, quads)?;
+    equal("state of a call", state_bits(&reply.state), state_bits(&want))?;
+    // Of a conic's points only the control of a single quad and the end are copied.
+    let split: Vec<(f32, bool)> =
+        placed.iter().enumerate().flat_map(|(i, p)| [(p.x, quads > 1 && i + 1 < placed.len()), (p.y, quads > 1 && i + 1 < placed.len())]).collect();
+    if !laid.is_empty() {
+        verbs.want[s.verbs..s.verbs + laid.len()].copy_from_slice(laid);
+        points.expect(2 * s.points, &split);
+        equal("verbs laid", &verbs.lent[s.verbs..want.verbs], laid)?;
+        points.holds("points laid", 2 * s.points, 2 * want.points)?;
+    }
+    Ok((reply.state, true))
+}
+
+/// What can be asked of a state.
+fn ask_state(s: Builder, pen: Option<Vec2>, note: Option<(Rect, f32)>) -> Checked {
+    // SAFETY: values only.
+    let (p, n) = unsafe { (ffi::hz_current_point(s), ffi::hz_rounded_rect(s)) };
+    equal("current_point", (p.known, bits(p.x), bits(p.y)), pen.map_or((0, 0, 0), |p| (1, bits(p.x), bits(p.y))))?;
+    let want = note.map_or((0, [0; 4], 0), |(r, radius)| (1, rect_bits(rect(r)), bits(radius)));
+    equal("rounded rect", (n.known, rect_bits(n.rect), bits(n.radius)), want)
+}
+
+/// The list of calls over one pair of buffers: each reply, and the path so left.
+fn build(calls: &[Call], lens: (usize, usize)) -> Result<Builder, Differs> {
+    let (mut verbs, mut points) = (Bytes::new(lens.1), Floats::new(lens.0));
+    // SAFETY: values only.
+    let mut s = unsafe { ffi::hz_new() };
+    let mut reference = PathBuilder::new();
+    for c in calls {
+        let (next, taken) = step(s, c, &mut verbs, &mut points)?;
+        s = next;
+        if taken {
+            reference = apply(reference, c);
+        }
+    }
+    let pen = reference.current_point();
+    let path = reference.build();
+    ask_state(s, pen, path.as_rounded_rect())?;
+    equal("fill rule", rule_of(s.fill_rule), path.fill_rule())?;
+    equal("verbs", &verbs.lent[..s.verbs], &bytes(&path)[..])?;
+    equal("points", s.points, path.points().len())?;
+    let placed = floats(path.points());
+    let masked: Vec<(f32, bool)> = placed.iter().zip(&points.want).map(|(x, w)| (*x, w.1)).collect();
+    points.expect(0, &masked);
+    verbs.all("verb buffer")?;
+    points.all("point buffer")?;
+    Ok(s)
+}
+
+/// Any state, any lengths, any call.
+fn damaged_state(r: &mut Rng, mut s: Builder, lens: (usize, usize)) -> Checked {
+    for _ in 0..=r.below(3) {
+        match r.below(8) {
+            0 => s.verbs = r.below(lens.1 as u64 + 3) as usize,
+            1 => s.points = r.below(lens.0 as u64 / 2 + 3) as usize,
+            2 => s.started = if r.one_in(2) { 0 } else { r.below(256) as u8 },
+            3 => (s.verbs, s.points) = if r.one_in(2) { (0, s.points) } else { (s.verbs, 0) },
+            4 => s.verbs = [usize::MAX, 65_536, 65_537, 1 << 40][r.below(4) as usize],
+            5 => s.points = [usize::MAX, usize::MAX / 2, 131_072, 131_073][r.below(4) as usize],
+            6 => (s.pen_x, s.pen_y, s.start_x, s.start_y) = (r.any(), r.any(), r.any(), r.any()),
+            _ => (s.fill_rule, s.noted) = (r.below(256) as u8, r.below(256) as u8),
+        }
+    }
+    let (mut verbs, mut points) = (Bytes::new(lens.1), Floats::new(lens.0));
+    let kind = r.below(7);
+    let c = case::call(r, kind, &mut Vec::new());
+    step(s, &c, &mut verbs, &mut points)?;
+    verbs.all("verb buffer of a damaged state")?;
+    points.all("point buffer of a damaged state")?;
+    let pen = (s.started != 0).then_some(Vec2::new(s.pen_x, s.pen_y));
+    let note = (s.noted != 0).then_some((Rect::new(Vec2::new(s.min_x, s.min_y), Vec2::new(s.max_x, s.max_y)), s.radius));
+    ask_state(s, pen, note)
+}
+
+// ---- paths
+
+/// What the source flattens a path to: for each float whether it is computed, and the totals.
+struct Flat {
+    points: Vec<(f32, bool)>,
+    ends: Vec<usize>,
+    lines: usize,
+    counts: usize,
+    closings: usize,
+    each: Vec<usize>,
+}
+
+fn reference_flat(path: &Path, tolerance: f32) -> (Flat, Vec<Vec<Vec2>>) {
+    let polylines = flatten(path, tolerance);
+    let mut flat = Flat { points: Vec::new(), ends: Vec::new(), lines: 0, counts: 0, closings: 0, each: Vec::new() };
+    let (mut pen, mut start) = (Vec2::ZERO, Vec2::ZERO);
+    let mut marks: Vec<bool> = Vec::new();
+    let end = |flat: &mut Flat, marks: &mut Vec<bool>| {
+        if marks.len() > 1 {
+            let line = &polylines[flat.ends.len()];
+            assert_eq!(line.len(), marks.len(), "the source's polyline");
+            flat.points.extend(line.iter().zip(marks.iter()).flat_map(|(p, m)| [(p.x, *m), (p.y, *m)]));
+            flat.ends.push(flat.points.len() / 2);
+        }
+        marks.clear();
+    };
+    for (verb, p) in path.segments() {
+        let mut n = 0;
+        match verb {
+            Verb::MoveTo => {
+                end(&mut flat, &mut marks);
+                (pen, start) = (p[0], p[0]);
+                marks.push(false);
+            }
+            Verb::LineTo => {
+                flat.lines += 1;
+                marks.push(false);
+                pen = p[0];
+            }
+            Verb::QuadTo => {
+                n = curves::quad_segment_count(pen, p[0], p[1], tolerance) as usize;
+                pen = p[1];
+            }
+            Verb::CubicTo => {
+                n = curves::cubic_segment_count(pen, p[0], p[1], p[2], tolerance) as usize;
+                pen = p[2];
+            }
+            Verb::Close => {
+                let line = polylines.get(flat.ends.len());
+                if marks.len() > 1 && line.is_some_and(|l| l[0] == start && l[marks.len() - 1] != start) {
+                    marks.push(false);
+                    flat.closings += 1;
+                }
+                pen = start;
+            }
+        }
+        flat.each.push(n);
+        flat.counts += n;
+        if n > 0 {
+            marks.resize(marks.len() + n - 1, true);
+            marks.push(false);
+        }
+    }
+    end(&mut flat, &mut marks);
+    assert_eq!(flat.ends.len(), polylines.len(), "the source's polylines");
+    (flat, polylines)
+}
+
+/// A path as it is handed in.
+struct Given {
+    verbs: Vec<u8>,
+    points: Vec<f32>,
+}
+
+impl Given {
+    fn ask<R>(&self, call: impl FnOnce(*const u8, usize, *const f32, usize) -> R) -> R {
+        call(self.verbs.as_ptr(), self.verbs.len(), self.points.as_ptr(), self.points.len())
+    }
+    fn refusal(&self) -> u8 {
+        numbers::path(&self.verbs, self.points.len())
+    }
+}
+
+/// Flattening into outputs of such lengths. `flat` is what is right where the path isn't refused.
+fn flattening(g: &Given, tolerance: f32, flat: Option<&Flat>, lens: (usize, usize)) -> Checked {
+    let (mut out, mut ends) = (Floats::new(lens.0), Ends::new(lens.1));
+    // SAFETY: the path is read; the outputs are lent with their own lengths.
+    let got = g.ask(|v, n, p, m| unsafe {
+        ffi::hz_flatten(v, n, p, m, tolerance, out.lent.as_mut_ptr(), lens.0, ends.lent.as_mut_ptr(), lens.1)
+    });
+    let mut number = if lens.0 % 2 == 1 { 1 } else { g.refusal() };
+    if let (0, Some(f)) = (number, flat) {
+        if lens.0 < f.points.len() || lens.1 < f.ends.len() {
+            number = 3;
+        }
+    }
+    refused("flatten refusal", got.refused, number)?;
+    let mut want = [0; 6];
+    if let (0, Some(f)) = (number, flat) {
+        want = [f.points.len() / 2, f.ends.len(), f.ends.len(), f.lines, f.counts, f.closings];
+        out.expect(0, &f.points);
+        ends.want[..f.ends.len()].copy_from_slice(&f.ends);
+    }
+    equal("flatten totals", [got.points, got.polylines, got.starts, got.lines, got.counts, got.closings], want)?;
+    out.all("flattened points")?;
+    ends.all("flattened ends")
+}
+
+struct Cut {
+    verbs: Vec<u8>,
+    points: Vec<(f32, bool)>,
+}
+
+/// Dashing into outputs of such lengths; `whole` and `cut` are what is right where nothing is refused.
+#[allow(clippy::too_many_arguments)]
+fn dashing(
+    g: &Given,
+    c: &Case,
+    rule: u8,
+    flat: Option<&Flat>,
+    whole: bool,
+    cut: Option<&Cut>,
+    scratch_lens: (usize, usize),
+    dash_lens: (usize, usize),
+) -> Checked {
+    let (mut scratch, mut ends) = (Floats::new(scratch_lens.0), Ends::new(scratch_lens.1));
+    let (mut points, mut verbs) = (Floats::new(dash_lens.0), Bytes::new(dash_lens.1));
+    // SAFETY: path and pattern are read; the outputs are lent with their own lengths.
+    let got = g.ask(|v, n, p, m| unsafe {
+        ffi::hz_dash_path(
+            v,
+            n,
+            p,
+            m,
+            rule,
+            c.intervals.as_ptr(),
+            c.intervals.len(),
+            c.phase,
+            c.tolerance,
+            scratch.lent.as_mut_ptr(),
+            scratch_lens.0,
+            ends.lent.as_mut_ptr(),
+            scratch_lens.1,
+            verbs.lent.as_mut_ptr(),
+            dash_lens.1,
+            points.lent.as_mut_ptr(),
+            dash_lens.0,
+        )
+    });
+    let mut number = if scratch_lens.0 % 2 == 1 || dash_lens.0 % 2 == 1 { 1 } else { g.refusal() };
+    if number == 0 && c.intervals.len() > 64 {
+        number = 8;
+    }
+    let mut want = ([0; 4], u8::from(number != 0) * 2, 0);
+    if let (0, false, Some(f), Some(d)) = (number, whole, flat, cut) {
+        if scratch_lens.0 < f.points.len() || scratch_lens.1 < f.ends.len() {
+            number = 3;
+        } else {
+            scratch.expect(0, &f.points);
+            ends.want[..f.ends.len()].copy_from_slice(&f.ends);
+            if d.verbs.len() > dash_lens.1.min(numbers::MAX_VERBS) || d.points.len() > dash_lens.0.min(2 * numbers::MAX_POINTS) {
+                number = 3;
+            }
+        }
+        if number == 0 {
+            want = ([d.verbs.len(), d.points.len() / 2, f.points.len() / 2, f.ends.len()], 1, u8::from(rule != 0));
+            verbs.want[..d.verbs.len()].copy_from_slice(&d.verbs);
+            points.expect(0, &d.points);
+        } else {
+            want.1 = 2;
+        }
+    }
+    refused("dash refusal", got.refused, number)?;
+    equal("dash answer", ([got.verbs, got.points, got.scratch, got.polylines], got.kind, got.fill_rule), want)?;
+    scratch.all("dash scratch")?;
+    ends.all("dash ends")?;
+    verbs.all("dash verbs")?;
+    points.all("dash points")?;
+    // SAFETY: both buffers are read.
+    let part = unsafe { ffi::hz_drawn_outline(g.points.as_ptr(), g.points.len(), g.points.len() / 2, points.lent.as_ptr(), dash_lens.0, got) };
+    let want = match got.kind {
+        0 => (0, g.points.len() / 2 * 2),
+        1 => (1, 2 * got.points),
+        _ => (1, 0),
+    };
+    equal("drawn outline", (part.from_dash, part.floats), want)
+}
+
+/// About how many intervals a walk has.
+fn work(polylines: &[Vec<Vec2>], intervals: &[f32]) -> f64 {
+    let sum: f64 = intervals.iter().map(|v| f64::from(*v)).sum();
+    let length: f64 = polylines.iter().flat_map(|l| l.windows(2)).map(|w| f64::from((w[1] - w[0]).length())).filter(|d| d.is_finite()).sum();
+    length / sum * intervals.len() as f64
+}
+
+fn concave(c: Convexity) -> u8 {
+    u8::from(c == Convexity::Concave)
+}
+
+/// The questions about a path that isn't refused.
+fn questions(g: &Given, path: &Path, r: &mut Rng) -> Checked {
+    // SAFETY: the path is read.
+    let (b, finite, range, convex, polygon) = g.ask(|v, n, p, m| unsafe {
+        (
+            ffi::hz_bounds(v, n, p, m),
+            ffi::hz_is_finite(v, n, p, m),
+            ffi::hz_is_within_tessellation_range(v, n, p, m),
+            ffi::hz_convexity(v, n, p, m),
+            ffi::hz_polygon_convexity(p, m),
+        )
+    });
+    let w = path.bounds();
+    equal("bounds", (b.refused, rect_bits(b.rect)), (0, rect_bits(rect(w))))?;
+    equal("finite", (finite.refused, finite.holds), (0, path.is_finite()))?;
+    equal("range", (range.refused, range.holds), (0, path.is_within_tessellation_range()))?;
+    equal("convexity", (convex.refused, convex.convexity), (0, concave(path.convexity())))?;
+    equal("polygon convexity", (polygon.refused, polygon.convexity), (0, concave(polygon_convexity(path.points()))))?;
+    let odd = Rect::new(Vec2::new(r.any(), r.any()), Vec2::new(r.any(), r.any()));
+    for w in [w, odd] {
+        let p = if r.one_in(2) { w.min } else { Vec2::new(r.any(), r.any()) };
+        let h = rect(w);
+        // SAFETY: values only.
+        let got = unsafe { (ffi::hz_is_empty(h), ffi::hz_contains(h, xy(p)), ffi::hz_width(h), ffi::hz_height(h)) };
+        equal("rect", (got.0, got.1), (w.is_empty(), w.contains(p)))?;
+        computed("width", got.2, w.width())?;
+        computed("height", got.3, w.height())?;
+    }
+    Ok(())
+}
+
+/// A path with something wrong, which every call must see.
+fn damaged_path(r: &mut Rng, c: &Case, mut g: Given) -> Checked {
+    for _ in 0..=r.below(2) {
+        let at = |r: &mut Rng, n: usize| r.below(n.max(1) as u64) as usize;
+        match r.below(7) {
+            0 => g.points.push(r.any()),
+            1 => {
+                let i = at(r, g.verbs.len());
+                g.verbs.get_mut(i).map(|v| *v = 5 + r.below(251) as u8).unwrap_or(())
+            }
+            2 => g.verbs.first_mut().map(|v| *v = 1 + r.below(4) as u8).unwrap_or(()),
+            3 => drop((g.points.pop(), g.points.pop())),
+            4 => g.points.extend([r.any(), r.any()]),
+            5 => g.verbs.push(r.below(6) as u8),
+            _ => {
+                let i = at(r, g.verbs.len());
+                if i < g.verbs.len() {
+                    g.verbs.remove(i);
+                }
+            }
+        }
+    }
+    refused_path(r, c, &g)
+}
+
+fn refused_path(r: &mut Rng, c: &Case, g: &Given) -> Checked {
+    let number = g.refusal();
+    let list = numbers::list(g.points.len());
+    // SAFETY: the path is read.
+    let (check, polygon) = g.ask(|v, n, p, m| unsafe { (ffi::hz_check(v, n, p, m), ffi::hz_polygon_convexity(p, m)) });
+    refused("check", check, number)?;
+    refused("polygon refusal", polygon.refused, list)?;
+    if list != 0 {
+        equal("polygon verdict of a refusal", polygon.convexity, 1)?;
+    }
+    if number == 0 {
+        return Ok(());
+    }
+    seen(15);
+    // SAFETY: the path is read.
+    let (b, finite, range, convex, carried) = g.ask(|v, n, p, m| unsafe {
+        (
+            ffi::hz_bounds(v, n, p, m),
+            ffi::hz_is_finite(v, n, p, m),
+            ffi::hz_is_within_tessellation_range(v, n, p, m),
+            ffi::hz_convexity(v, n, p, m),
+            ffi::hz_carried_count(v, n, p, m, c.tolerance, r.below(9) as usize),
+        )
+    });
+    equal("bounds of a refused path", (b.refused, rect_bits(b.rect)), (number, rect_bits(hizlaou::Rect::empty())))?;
+    equal("finite of a refused path", (finite.refused, finite.holds), (number, false))?;
+    equal("range of a refused path", (range.refused, range.holds), (number, false))?;
+    equal("convexity of a refused path", (convex.refused, convex.convexity), (number, 1))?;
+    equal("count of a refused path", (carried.refused, carried.count), (number, 0))?;
+    flattening(g, c.tolerance, None, lengths(r, 24, 4))?;
+    dashing(g, c, 0, None, false, None, lengths(r, 24, 4), lengths(r, 24, 12))
+}
+
+// ---- values
+
+fn count_of(squared: f32) -> u32 {
+    if squared.is_nan() || squared <= 0.0 {
+        1
+    } else if squared.is_infinite() {
+        1000
+    } else {
+        (squared.sqrt().ceil() as u32).clamp(1, 1000)
+    }
+}
+
+const STYLES: [&[f32]; 9] =
+    [&[], &[12.0, 6.0], &[6.0, 6.0], &[2.0, 4.0], &[12.0, 4.0, 2.0, 4.0], &[12.0, 4.0, 2.0, 4.0, 2.0, 4.0], &[8.0], &[4.0, 2.0, 1.0], &[24.0, 8.0]];
+
+fn values(r: &mut Rng, c: &Case) -> Checked {
+    let mut drawn = Vec::new();
+    for call in &c.calls {
+        match *call {
+            Call::Move(p) | Call::Line(p) => drawn.push(p),
+            Call::Quad(a, p) | Call::Conic(a, p, _) | Call::Note(a, p, _) => drawn.extend([a, p]),
+            Call::Cubic(a, b, p) => drawn.extend([a, b, p]),
+            Call::Close | Call::Rule(_) => (),
+        }
+    }
+    let p: [Point; 4] = std::array::from_fn(|_| match drawn.len() {
+        0 => [r.any(), r.any()],
+        n => drawn[r.below(n as u64) as usize],
+    });
+    let t = if r.one_in(4) { r.any() } else { r.below(1001) as f32 / 1000.0 };
+    let x = if r.one_in(2) { r.any() } else { (r.below(1_100_000) as f32) * if r.one_in(2) { 1.0 } else { 0.125 } };
+    let [a, b, d, e] = p.map(v2);
+    // SAFETY: values only.
+    unsafe {
+        let [ha, hb, hd, he] = p.map(pt);
+        equal("quad count", ffi::hz_quad_segment_count(ha, hb, hd, c.tolerance), curves::quad_segment_count(a, b, d, c.tolerance))?;
+        equal("cubic count", ffi::hz_cubic_segment_count(ha, hb, hd, he, c.tolerance), curves::cubic_segment_count(a, b, d, e, c.tolerance))?;
+        let (q, w) = (ffi::hz_eval_quad(ha, hb, hd, t), curves::eval_quad(a, b, d, t));
+        computed("eval_quad", q.x, w.x)?;
+        computed("eval_quad", q.y, w.y)?;
+        let (q, w) = (ffi::hz_eval_cubic(ha, hb, hd, he, t), curves::eval_cubic(a, b, d, e, t));
+        computed("eval_cubic", q.x, w.x)?;
+        computed("eval_cubic", q.y, w.y)?;
+        let (s, w) = (ffi::hz_tolerance_for_scale(c.tolerance, c.scale), curves::tolerance_for_scale(c.tolerance, c.scale));
+        if c.scale <= 0.0 || !c.scale.is_finite() {
+            equal("tolerance_for_scale", bits(s), bits(w))?;
+        } else {
+            computed("tolerance_for_scale", s, w)?;
+        }
+        computed("sqrt", ffi::hz_sqrt(x), x.sqrt())?;
+        equal("segment_count", ffi::hz_segment_count(x), count_of(x))?;
+        let usable = Dash::new(c.intervals.clone(), c.phase).is_usable();
+        equal("is_usable", ffi::hz_is_usable(c.intervals.as_ptr(), c.intervals.len(), c.phase), usable)?;
+        let number = if r.one_in(16) { r.next() as usize } else { r.below(11) as usize };
+        let style = ffi::hz_line_style(number);
+        refused("style refusal", style.refused, if number > 8 { 9 } else { 0 })?;
+        let mut want = [0f32; 64];
+        let intervals = STYLES.get(number).copied().unwrap_or(&[]);
+        want[..intervals.len()].copy_from_slice(intervals);
+        equal("style", (style.len, style.values.map(bits)), (intervals.len(), want.map(bits)))
+    }
+}
+
+/// The whole case.
+pub fn case(c: &Case) -> Checked {
+    let r = &mut Rng::new(c.seed, 0);
+    values(r, c)?;
+    let mut b = PathBuilder::new();
+    for call in &c.calls {
+        b = apply(b, call);
+    }
+    let path = b.clone().build();
+    let lens = lengths(r, 2 * path.points().len(), path.verbs().len());
+    let state = build(&c.calls, lens)?;
+    if r.one_in(4) {
+        damaged_state(r, state, lens)?;
+    }
+    let given = Given { verbs: bytes(&path), points: floats(path.points()) };
+    questions(&given, &path, r)?;
+    let (flat, polylines) = reference_flat(&path, c.tolerance);
+    flattening(&given, c.tolerance, Some(&flat), lengths(r, flat.points.len(), flat.ends.len()))?;
+    for _ in 0..2 {
+        let i = r.below(given.verbs.len() as u64 + 2) as usize;
+        // SAFETY: the path is read.
+        let got = given.ask(|v, n, p, m| unsafe { ffi::hz_carried_count(v, n, p, m, c.tolerance, i) });
+        equal("carried count", (got.refused, got.count), (0, flat.each.get(i).copied().unwrap_or(0)))?;
+    }
+    let dash = Dash::new(c.intervals.clone(), c.phase);
+    let limit = if r.one_in(512) { 200_000.0 } else { 4_000.0 };
+    let over = c.intervals.iter().map(|v| f64::from(*v)).sum::<f64>() * 2.1 > f64::from(c.tolerance);
+    if dash.is_usable() && over && !(work(&polylines, &c.intervals) < limit) {
+        seen(12);
+    } else {
+        // A note on the path tells Whole, a copy that keeps it, from Cut, which has none.
+        b.as_rounded_rect(Rect::new(Vec2::ZERO, Vec2::ZERO), 1.0);
+        let noted = b.build();
+        let cut = dash_path(&noted, &dash, c.tolerance);
+        let whole = cut.as_rounded_rect().is_some();
+        seen(10 + usize::from(!whole));
+        if !whole {
+            equal("the source's rule", cut.fill_rule(), path.fill_rule())?;
+        }
+        let cut = Cut { verbs: bytes(&cut), points: floats(cut.points()).into_iter().map(|x| (x, true)).collect() };
+        let rule = if path.fill_rule() == FillRule::NonZero { 0 } else { 1 + r.below(255) as u8 };
+        let scratch = lengths(r, flat.points.len(), flat.ends.len());
+        let scratch = if r.one_in(2) { (flat.points.len(), flat.ends.len()) } else { scratch };
+        dashing(&given, c, rule, Some(&flat), whole, Some(&cut), scratch, lengths(r, cut.points.len(), cut.verbs.len()))?;
+    }
+    if r.one_in(8) {
+        // over 64 intervals, on a path that may be refused for other reasons first
+        let mut long = c.clone();
+        long.intervals.resize(65 + r.below(70) as usize, 1.0);
+        dashing(&given, &long, 0, None, false, None, lengths(r, 24, 4), lengths(r, 24, 12))?;
+    }
+    if r.one_in(3) {
+        damaged_path(r, c, given)?;
+    }
+    Ok(())
+}
+
+/// The limits: a list of calls that goes past them, paths over them, and dashes that just fit or just don't.
+pub fn limits(r: &mut Rng) -> Checked {
+    let cubics = r.one_in(2);
+    let mut calls = Vec::new();
+    let (mut verbs, mut points) = (0, 0);
+    while verbs < numbers::MAX_VERBS + 40 && points < numbers::MAX_POINTS + 80 {
+        let p = [r.below(64) as f32, r.below(64) as f32];
+        let c = match r.below(100) {
+            0 => Call::Conic([8.0, 8.0], p, 3.0),
+            1 => Call::Quad([4.0, 1.0], p),
+            2 => Call::Close,
+            3 => Call::Move(p),
+            _ if cubics => Call::Cubic([1.0, 1.0], [2.0, 3.0], p),
+            _ => Call::Line(p),
+        };
+        verbs += 1;
+        points += match c {
+            Call::Conic(..) | Call::Quad(..) => 2,
+            Call::Cubic(..) => 3,
+            _ => 1,
+        };
+        calls.push(c);
+    }
+    build(&calls, (2 * numbers::MAX_POINTS + 300, numbers::MAX_VERBS + 70))?;
+    let c = Case { tolerance: 0.25, scale: 1.0, phase: 0.0, intervals: vec![1.0, 1.0], calls: Vec::new(), seed: 0 };
+    for (verbs, points) in [(65_536, 65_536), (65_537, 65_537), (10, 131_073), (65_537, 3), (65_536, 131_072)] {
+        let mut g = Given { verbs: vec![1; verbs], points: vec![1.5; 2 * points + usize::from(r.one_in(5))] };
+        g.verbs[0] = 0;
+        refused_path(r, &c, &g)?;
+    }
+    // 65,536 verbs of dashes are the most.
+    for length in [65_536.0, 65_537.0, 65_538.0] {
+        let mut b = PathBuilder::new();
+        b.move_to(Vec2::ZERO).line_to(Vec2::new(length, 0.0));
+        let path = b.build();
+        let (flat, _) = reference_flat(&path, 0.25);
+        let cut = dash_path(&path, &Dash::new(c.intervals.clone(), 0.0), 0.25);
+        let cut = Cut { verbs: bytes(&cut), points: floats(cut.points()).into_iter().map(|x| (x, true)).collect() };
+        let g = Given { verbs: bytes(&path), points: floats(path.points()) };
+        dashing(&g, &c, 1, Some(&flat), false, Some(&cut), (4, 1), (140_000, 70_000))?;
+    }
+    Ok(())
+}
