@@ -1,1 +1,2 @@
 pub mod Convexity
+pub mod Builder

@@ -6,19 +6,27 @@ ghost use Rattle.float.specs.Count.{segmentCount};
 ghost use Rattle.path.specs.Check.{badPath};
 ghost use Rattle.path.specs.Rect.{isEmptyRect, holds, widthOf, heightOf};
 ghost use Rattle.curve.specs.Count.{quadCount, cubicCount, evalQuad, evalCubic, scaledTolerance};
-ghost use Rattle.flatten.specs.Flatten.{outcome, flatten, carriedCount};
+ghost use Rattle.flatten.specs.Flatten.{outcome as flattened, flatten, carriedCount};
+ghost use Rattle.builder.specs.Build.{fresh, told, currentOf, noteOf, called};
+ghost use Rattle.builder.specs.declared.Call.the-variants.{MoveTo, LineTo, QuadTo, ConicTo, CubicTo, Close, WithFillRule, AsRoundedRect};
 ghost use Rattle.bounds.specs.Answer.{bounded, answered};
 ghost use Rattle.bounds.specs.declared.Question.the-variants.{Finite, InRange};
 ghost use Rattle.convexity.specs.Answer.{polygonVerdict, pathVerdict};
 ghost use Rattle.pattern.specs.Cycle.{usable};
 ghost use Rattle.pattern.specs.Style.{lineStyle};
+ghost use Rattle.capi.specs.Builder.{ruleIn, ruleOut, flagIn, flagOut, stateIn, stateOut, replyWith, replyOut, outcome, outcomeOut, pointOut, noteOut};
 ghost use Rattle.capi.specs.Convexity.{convexityByte, verdictOut};
 use bounds::reply::Answer;
 use bounds::reply::Bounds;
+use builder::CurrentPoint;
+use builder::Note;
+use builder::PathBuilder;
+use builder::Reply;
 use convexity::answer::Convexity;
 use convexity::answer::Verdict;
 use flatten::Carried;
 use flatten::Flattened;
+use path::FillRule;
 use path::Rect;
 use pattern::LineStyle;
 use vec2::Vec2;
@@ -82,6 +90,287 @@ pub extern "C" fn hz_tolerance_for_scale(tolerance: f32, max_scale: f32) -> f32
     curve::tolerance_for_scale(tolerance, max_scale)
 }
 
+// ---- building
+
+// A builder's state. The fill rule is 0 for the non-zero rule, else even-odd; a flag is 0 for false, else true.
+#[repr(C)]
+pub struct HzBuilder {
+    pub verbs: usize,
+    pub points: usize,
+    pub start_x: f32,
+    pub start_y: f32,
+    pub pen_x: f32,
+    pub pen_y: f32,
+    pub min_x: f32,
+    pub min_y: f32,
+    pub max_x: f32,
+    pub max_y: f32,
+    pub radius: f32,
+    pub fill_rule: u8,
+    pub noted: u8,
+    pub started: u8,
+}
+
+#[repr(C)]
+pub struct HzReply {
+    pub state: HzBuilder,
+    pub quads: usize,
+    pub refused: u8,
+}
+
+// The pen, where known is 1.
+#[repr(C)]
+pub struct HzPoint {
+    pub x: f32,
+    pub y: f32,
+    pub known: u8,
+}
+
+// The rounded rectangle that a path was built from, where known is 1.
+#[repr(C)]
+pub struct HzNote {
+    pub rect: Rect,
+    pub radius: f32,
+    pub known: u8,
+}
+
+fn rule_out(rule: FillRule) -> u8
+    ensures { λ r. ⌜ r ≡ ruleOut rule ⌝ }
+{
+    match rule {
+        FillRule::NonZero => 0,
+        FillRule::EvenOdd => 1,
+    }
+}
+
+fn flag_in(n: u8) -> bool
+    ensures { λ r. ⌜ r ≡ flagIn n ⌝ }
+{
+    n != 0
+}
+
+fn rule_in(n: u8) -> FillRule
+    ensures { λ r. ⌜ r ≡ ruleIn n ⌝ }
+{
+    if flag_in(n) {
+        return FillRule::EvenOdd;
+    }
+    FillRule::NonZero
+}
+
+fn flag_out(b: bool) -> u8
+    ensures { λ r. ⌜ r ≡ flagOut b ⌝ }
+{
+    if b { 1 } else { 0 }
+}
+
+fn state_in(s: HzBuilder) -> PathBuilder
+    ensures { λ r. ⌜ r ≡ stateIn s ⌝ }
+{
+    PathBuilder {
+        verbs: s.verbs,
+        points: s.points,
+        start_x: s.start_x,
+        start_y: s.start_y,
+        pen_x: s.pen_x,
+        pen_y: s.pen_y,
+        min_x: s.min_x,
+        min_y: s.min_y,
+        max_x: s.max_x,
+        max_y: s.max_y,
+        radius: s.radius,
+        fill_rule: rule_in(s.fill_rule),
+        noted: flag_in(s.noted),
+        started: flag_in(s.started),
+    }
+}
+
+fn state_out(b: PathBuilder) -> HzBuilder
+    ensures { λ r. ⌜ r ≡ stateOut b ⌝ }
+{
+    let rule = b.fill_rule;
+    HzBuilder {
+        verbs: b.verbs,
+        points: b.points,
+        start_x: b.start_x,
+        start_y: b.start_y,
+        pen_x: b.pen_x,
+        pen_y: b.pen_y,
+        min_x: b.min_x,
+        min_y: b.min_y,
+        max_x: b.max_x,
+        max_y: b.max_y,
+        radius: b.radius,
+        fill_rule: rule_out(rule),
+        noted: flag_out(b.noted),
+        started: flag_out(b.started),
+    }
+}
+
+fn reply_with(s: HzBuilder, r: Reply) -> HzReply
+    ensures { λ q. ⌜ q ≡ replyWith s r ⌝ }
+{
+    HzReply {
+        state: s,
+        quads: r.quads,
+        refused: r.refused,
+    }
+}
+
+// A refused call gives the state back as it came.
+fn reply_out(s: HzBuilder, r: Reply) -> HzReply
+    ensures { λ q. ⌜ q ≡ replyOut s r ⌝ }
+{
+    let state = r.state;
+    if flag_in(r.refused) {
+        return reply_with(s, r);
+    }
+    reply_with(state_out(state), r)
+}
+
+#[no_mangle]
+pub extern "C" fn hz_new() -> HzBuilder
+    ensures { λ r. ⌜ r ≡ stateOut fresh ⌝ }
+{
+    state_out(PathBuilder::new())
+}
+
+#[no_mangle]
+pub extern "C" fn hz_with_fill_rule(state: HzBuilder, rule: u8) -> HzBuilder
+    ensures { λ r. ⌜ r ≡ stateOut (told (stateIn state) (WithFillRule (ruleIn rule))) ⌝ }
+{
+    state_out(state_in(state).with_fill_rule(rule_in(rule)))
+}
+
+#[no_mangle]
+pub extern "C" fn hz_as_rounded_rect(state: HzBuilder, rect: Rect, radius: f32) -> HzBuilder
+    ensures { λ r. ⌜ r ≡ stateOut (told (stateIn state) (AsRoundedRect rect radius)) ⌝ }
+{
+    state_out(state_in(state).as_rounded_rect(rect, radius))
+}
+
+fn point_out(p: CurrentPoint) -> HzPoint
+    ensures { λ r. ⌜ r ≡ pointOut p ⌝ }
+{
+    match p {
+        CurrentPoint::At(x, y) => HzPoint { x, y, known: 1 },
+        CurrentPoint::Nowhere => HzPoint {
+            x: 0.0,
+            y: 0.0,
+            known: 0,
+        },
+    }
+}
+
+#[no_mangle]
+pub extern "C" fn hz_current_point(state: HzBuilder) -> HzPoint
+    ensures { λ r. ⌜ r ≡ pointOut (currentOf (stateIn state)) ⌝ }
+{
+    point_out(state_in(state).current_point())
+}
+
+fn note_out(n: Note) -> HzNote
+    ensures { λ r. ⌜ r ≡ noteOut n ⌝ }
+{
+    match n {
+        Note::Rounded(rect, radius) => HzNote {
+            rect,
+            radius,
+            known: 1,
+        },
+        Note::Unknown => HzNote {
+            rect: Rect {
+                min: Vec2::zero(),
+                max: Vec2::zero(),
+            },
+            radius: 0.0,
+            known: 0,
+        },
+    }
+}
+
+#[no_mangle]
+pub extern "C" fn hz_rounded_rect(state: HzBuilder) -> HzNote
+    ensures { λ r. ⌜ r ≡ noteOut (noteOf (stateIn state)) ⌝ }
+{
+    note_out(state_in(state).rounded_rect())
+}
+
+#[no_mangle]
+pub extern "C" fn hz_move_to(
+    state: HzBuilder,
+    verbs: &mut [u8],
+    points: &mut [f32],
+    p: Vec2,
+) -> HzReply
+    ensures { λ r. ⌜ outcome r (now (verbs .exit)) (now (points .exit)) ≡ outcomeOut state (called (stateIn state) (now (verbs .entry)) (now (points .entry)) (MoveTo p)) ⌝ }
+{
+    reply_out(state, state_in(state).move_to(verbs, points, p))
+}
+
+#[no_mangle]
+pub extern "C" fn hz_line_to(
+    state: HzBuilder,
+    verbs: &mut [u8],
+    points: &mut [f32],
+    p: Vec2,
+) -> HzReply
+    ensures { λ r. ⌜ outcome r (now (verbs .exit)) (now (points .exit)) ≡ outcomeOut state (called (stateIn state) (now (verbs .entry)) (now (points .entry)) (LineTo p)) ⌝ }
+{
+    reply_out(state, state_in(state).line_to(verbs, points, p))
+}
+
+#[no_mangle]
+pub extern "C" fn hz_quad_to(
+    state: HzBuilder,
+    verbs: &mut [u8],
+    points: &mut [f32],
+    ctrl: Vec2,
+    to: Vec2,
+) -> HzReply
+    ensures { λ r. ⌜ outcome r (now (verbs .exit)) (now (points .exit)) ≡ outcomeOut state (called (stateIn state) (now (verbs .entry)) (now (points .entry)) (QuadTo ctrl to)) ⌝ }
+{
+    reply_out(state, state_in(state).quad_to(verbs, points, ctrl, to))
+}
+
+#[no_mangle]
+pub extern "C" fn hz_conic_to(
+    state: HzBuilder,
+    verbs: &mut [u8],
+    points: &mut [f32],
+    ctrl: Vec2,
+    to: Vec2,
+    weight: f32,
+) -> HzReply
+    ensures { λ r. ⌜ outcome r (now (verbs .exit)) (now (points .exit)) ≡ outcomeOut state (called (stateIn state) (now (verbs .entry)) (now (points .entry)) (ConicTo ctrl to weight)) ⌝ }
+{
+    reply_out(
+        state,
+        state_in(state).conic_to(verbs, points, ctrl, to, weight),
+    )
+}
+
+#[no_mangle]
+pub extern "C" fn hz_cubic_to(
+    state: HzBuilder,
+    verbs: &mut [u8],
+    points: &mut [f32],
+    c0: Vec2,
+    c1: Vec2,
+    to: Vec2,
+) -> HzReply
+    ensures { λ r. ⌜ outcome r (now (verbs .exit)) (now (points .exit)) ≡ outcomeOut state (called (stateIn state) (now (verbs .entry)) (now (points .entry)) (CubicTo c0 c1 to)) ⌝ }
+{
+    reply_out(state, state_in(state).cubic_to(verbs, points, c0, c1, to))
+}
+
+#[no_mangle]
+pub extern "C" fn hz_close(state: HzBuilder, verbs: &mut [u8], points: &mut [f32]) -> HzReply
+    ensures { λ r. ⌜ outcome r (now (verbs .exit)) (now (points .exit)) ≡ outcomeOut state (called (stateIn state) (now (verbs .entry)) (now (points .entry)) Close) ⌝ }
+{
+    reply_out(state, state_in(state).close(verbs, points))
+}
+
 // ---- a path that is handed in
 
 #[no_mangle]
@@ -99,7 +388,7 @@ pub extern "C" fn hz_flatten(
     out: &mut [f32],
     ends: &mut [usize],
 ) -> Flattened
-    ensures { λ r. ⌜ outcome r (now (out .exit)) (now (ends .exit)) ≡ flatten (now (verbs .entry)) (now (points .entry)) tolerance (now (out .entry)) (now (ends .entry)) ⌝ }
+    ensures { λ r. ⌜ flattened r (now (out .exit)) (now (ends .exit)) ≡ flatten (now (verbs .entry)) (now (points .entry)) tolerance (now (out .entry)) (now (ends .entry)) ⌝ }
 {
     flatten::flatten(verbs, points, tolerance, out, ends)
 }
