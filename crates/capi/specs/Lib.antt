@@ -1,2 +1,3 @@
 pub mod Convexity
 pub mod Builder
+pub mod Dash

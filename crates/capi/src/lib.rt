@@ -15,6 +15,7 @@ ghost use Rattle.convexity.specs.Answer.{polygonVerdict, pathVerdict};
 ghost use Rattle.pattern.specs.Cycle.{usable};
 ghost use Rattle.pattern.specs.Style.{lineStyle};
 ghost use Rattle.capi.specs.Builder.{ruleIn, ruleOut, flagIn, flagOut, stateIn, stateOut, replyWith, replyOut, outcome, outcomeOut, pointOut, noteOut};
+ghost use Rattle.capi.specs.Dash.{uncut, cutOut, dashedOut, dashOutcome, hzDashing, outlineIn, dashedIn, hzOutline};
 ghost use Rattle.capi.specs.Convexity.{convexityByte, verdictOut};
 use bounds::reply::Answer;
 use bounds::reply::Bounds;
@@ -24,6 +25,8 @@ use builder::PathBuilder;
 use builder::Reply;
 use convexity::answer::Convexity;
 use convexity::answer::Verdict;
+use dash::Dashed;
+use dash::Outline;
 use flatten::Carried;
 use flatten::Flattened;
 use path::FillRule;
@@ -512,4 +515,135 @@ pub extern "C" fn hz_line_style(number: usize) -> LineStyle
     ensures { λ r. ⌜ r ≡ lineStyle number ⌝ }
 {
     pattern::line_style(number)
+}
+
+// ---- dashing
+
+// What a dashing answers: kind is 0 for Whole, 1 for Cut, 2 for a refusal. Counts are 0 unless cut.
+#[repr(C)]
+pub struct HzDashed {
+    pub verbs: usize,
+    pub points: usize,
+    pub scratch: usize,
+    pub polylines: usize,
+    pub kind: u8,
+    pub fill_rule: u8,
+    pub refused: u8,
+}
+
+// The first so many floats, of the dash buffer where from_dash is 1, else of the path's.
+#[repr(C)]
+pub struct HzOutline {
+    pub floats: usize,
+    pub from_dash: u8,
+}
+
+fn not_cut(kind: u8, refused: u8) -> HzDashed
+    ensures { λ r. ⌜ r ≡ uncut kind refused ⌝ }
+{
+    HzDashed {
+        verbs: 0,
+        points: 0,
+        scratch: 0,
+        polylines: 0,
+        kind,
+        fill_rule: 0,
+        refused,
+    }
+}
+
+fn cut_out(o: Outline) -> HzDashed
+    ensures { λ r. ⌜ r ≡ cutOut o ⌝ }
+{
+    let rule = o.rule;
+    HzDashed {
+        verbs: o.verbs,
+        points: o.points,
+        scratch: o.scratch,
+        polylines: o.polylines,
+        kind: 1,
+        fill_rule: rule_out(rule),
+        refused: 0,
+    }
+}
+
+fn dashed_out(d: Dashed) -> HzDashed
+    ensures { λ r. ⌜ r ≡ dashedOut d ⌝ }
+{
+    match d {
+        Dashed::Whole => not_cut(0, 0),
+        Dashed::Cut(o) => cut_out(o),
+        Dashed::Refused(n) => not_cut(2, n),
+    }
+}
+
+#[no_mangle]
+pub extern "C" fn hz_dash_path(
+    verbs: &[u8],
+    points: &[f32],
+    rule: u8,
+    intervals: &[f32],
+    phase: f32,
+    tolerance: f32,
+    scratch: &mut [f32],
+    ends: &mut [usize],
+    dash_verbs: &mut [u8],
+    dash_points: &mut [f32],
+) -> HzDashed
+    ensures { λ r. ⌜ dashOutcome r (now (scratch .exit)) (now (ends .exit)) (now («dash_verbs» .exit)) (now («dash_points» .exit))
+        ≡ hzDashing (now (verbs .entry)) (now (points .entry)) (ruleIn rule) (now (intervals .entry)) phase tolerance (now (scratch .entry)) (now (ends .entry)) (now («dash_verbs» .entry)) (now («dash_points» .entry)) ⌝ }
+{
+    let r = rule_in(rule);
+    dashed_out(dash::dash_path(
+        verbs,
+        points,
+        r,
+        intervals,
+        phase,
+        tolerance,
+        scratch,
+        ends,
+        dash_verbs,
+        dash_points,
+    ))
+}
+
+fn outline_in(a: HzDashed) -> Outline
+    ensures { λ r. ⌜ r ≡ outlineIn a ⌝ }
+{
+    Outline {
+        verbs: a.verbs,
+        points: a.points,
+        scratch: a.scratch,
+        polylines: a.polylines,
+        rule: rule_in(a.fill_rule),
+    }
+}
+
+fn dashed_in(a: HzDashed) -> Dashed
+    ensures { λ r. ⌜ r ≡ dashedIn a ⌝ }
+{
+    if a.kind == 0 {
+        return Dashed::Whole;
+    }
+    if a.kind == 1 {
+        return Dashed::Cut(outline_in(a));
+    }
+    Dashed::Refused(a.refused)
+}
+
+#[no_mangle]
+pub extern "C" fn hz_drawn_outline<'a>(
+    path: &'a [f32],
+    points: usize,
+    dash: &'a [f32],
+    answer: HzDashed,
+) -> HzOutline
+    ensures { λ r. ⌜ r ≡ hzOutline (now (path .entry)) points (now (dash .entry)) answer ⌝ }
+{
+    let part = dash::drawn_outline(path, points, dash, dashed_in(answer));
+    HzOutline {
+        floats: part.len(),
+        from_dash: flag_out(flag_in(answer.kind)),
+    }
 }

@@ -1,0 +1,18 @@
+-- A dashing's outcome, as C has it: from what the answer, the call and the fill rule ensure. Assumes nothing.
+use mathlib.Core.Path.{_≡_, ap, _∙_}
+use mathlib.Core.List.{List}
+use Prim.Native.Nat.{ℕ}
+use lib.Ieee.{Float}
+use Rattle.path.specs.declared.FillRule.{FillRule}
+use Rattle.dash.specs.declared.Dashed.{Dashed}
+use Rattle.dash.specs.Dash.{outcome, dashing}
+use Rattle.capi.specs.declared.HzDashed.{HzDashed}
+use Rattle.capi.specs.Dash.{dashedOut, dashOutcome, dashOutcomeOut, hzDashing}
+
+pub dash-out : (r : Dashed) (k' : FillRule) (v : List ℕ) (p : List Float) (k : FillRule) (i : List Float) (a t : Float) (s : List Float) (e : List ℕ) (vs : List ℕ) (fs : List Float)
+    {q : HzDashed} {s' : List Float} {e' : List ℕ} {vs' : List ℕ} {fs' : List Float}
+    → q ≡ dashedOut r → outcome r s' e' vs' fs' ≡ dashing v p k' i a t s e vs fs → k' ≡ k
+    → dashOutcome q s' e' vs' fs' ≡ hzDashing v p k i a t s e vs fs
+unfolding hzDashing
+dash-out r k' v p k i a t s e vs fs {s' = s'} {e' = e'} {vs' = vs'} {fs' = fs'} given made ruled =
+    ap (λ q. dashOutcome q s' e' vs' fs') given ∙ (ap dashOutcomeOut made ∙ ap (λ k. hzDashing v p k i a t s e vs fs) ruled)

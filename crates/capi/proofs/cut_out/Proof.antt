@@ -1,0 +1,12 @@
+use borrow.Author.Needs.{needs}
+use Rattle.capi.proofs.cut_out.Statement.{statement}
+use Rattle.capi.proofs.cut_out.Tie as tie
+
+rule-out-requires : tie.Need-rule-out-requires
+rule-out-requires c κs = search needs
+
+returns : tie.Need-returns
+returns c = cc
+
+pub cut-out-spec : {M : Type 1} → statement M
+cut-out-spec = tie.close (tie.spec rule-out-requires returns)

@@ -1,0 +1,44 @@
+use borrow.Author.Needs.{needs}
+use Rattle.capi.proofs.dashed_out.Statement.{statement}
+use Rattle.capi.proofs.dashed_out.Tie as tie
+
+enum-told : tie.Need-enum-told
+enum-told c = search needs
+
+not-cut-requires : tie.Need-not-cut-requires
+not-cut-requires c κs = search needs
+
+enum-known-d : tie.Need-enum-known-d
+enum-known-d c = search needs
+
+cut-out-requires : tie.Need-cut-out-requires
+cut-out-requires c κs = search needs
+
+enum-known-d-2 : tie.Need-enum-known-d-2
+enum-known-d-2 c = search needs
+
+not-cut-requires-2 : tie.Need-not-cut-requires-2
+not-cut-requires-2 c κs = search needs
+
+returns : tie.Need-returns
+returns c = rw (c .before .enum-told .given .1) (c .not-cut .ensures)
+
+returns-2 : tie.Need-returns-2
+returns-2 c = rw (c .before .before .d .given .1) (c .cut-out .ensures)
+
+returns-3 : tie.Need-returns-3
+returns-3 c = rw (c .before .before .d2 .given .1) (c .not-cut2 .ensures)
+
+pub dashed-out-spec : {M : Type 1} → statement M
+dashed-out-spec =
+    tie.close
+    (tie.spec
+    enum-told
+    not-cut-requires
+    enum-known-d
+    cut-out-requires
+    enum-known-d-2
+    not-cut-requires-2
+    returns
+    returns-2
+    returns-3)

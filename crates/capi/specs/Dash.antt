@@ -1,0 +1,65 @@
+-- A dashing's answer as C has it: kind 0 is Whole, 1 Cut, any other a refusal; counts that a kind does not have are 0. Definitions only.
+use Prim.Native.Nat.{ℕ}
+use mathlib.Core.Bool.{cond}
+use mathlib.Core.List.{List}
+use lib.ListN.{length}
+use lib.Dec.{eqb}
+use lib.Ieee.{Float}
+use Rattle.path.specs.declared.FillRule.{FillRule}
+use Rattle.dash.specs.declared.Outline.{Outline}
+use Rattle.dash.specs.declared.Dashed.{Dashed}
+use Rattle.dash.specs.declared.Dashed.the-variants.{Whole, Cut, Refused}
+use Rattle.dash.specs.Dash.{Outcome, dashing}
+use Rattle.dash.specs.Outline.{outlineOf}
+use Rattle.capi.specs.declared.HzDashed.{HzDashed}
+use Rattle.capi.specs.declared.HzOutline.{HzOutline}
+use Rattle.capi.specs.Builder.{ruleIn, ruleOut, flagIn, flagOut}
+
+abbrev pub uncut : ℕ → ℕ → HzDashed
+uncut kind refused = record { verbs = 0; points = 0; scratch = 0; polylines = 0; kind = kind; «fill_rule» = 0; refused = refused }
+
+abbrev pub cutOut : Outline → HzDashed
+cutOut o =
+    record {
+      verbs = o .verbs;
+      points = o .points;
+      scratch = o .scratch;
+      polylines = o .polylines;
+      kind = 1;
+      «fill_rule» = ruleOut (o .rule);
+      refused = 0;
+    }
+
+abbrev pub dashedOut : Dashed → HzDashed
+dashedOut Whole = uncut 0 0
+dashedOut (Cut o) = cutOut o
+dashedOut (Refused n) = uncut 2 n
+
+-- the answer, and what the four lent buffers hold afterwards
+pub record HzDashing : Type 0 where
+  pub reply : HzDashed
+  pub scratch : List Float
+  pub ends : List ℕ
+  pub verbs : List ℕ
+  pub floats : List Float
+
+abbrev pub dashOutcome : HzDashed → List Float → List ℕ → List ℕ → List Float → HzDashing
+dashOutcome r s e vs fs = record { reply = r; scratch = s; ends = e; verbs = vs; floats = fs }
+
+abbrev pub dashOutcomeOut : Outcome → HzDashing
+dashOutcomeOut o = dashOutcome (dashedOut (o .reply)) (o .scratch) (o .ends) (o .verbs) (o .floats)
+
+unfoldable pub hzDashing : List ℕ → List Float → FillRule → List Float → Float → Float → List Float → List ℕ → List ℕ → List Float → HzDashing
+hzDashing verbs points rule intervals phase tolerance scratch ends vs fs =
+    dashOutcomeOut (dashing verbs points rule intervals phase tolerance scratch ends vs fs)
+
+abbrev pub outlineIn : HzDashed → Outline
+outlineIn a = record { verbs = a .verbs; points = a .points; scratch = a .scratch; polylines = a .polylines; rule = ruleIn (a .«fill_rule») }
+
+unfoldable pub dashedIn : HzDashed → Dashed
+dashedIn a = cond (eqb (a .kind) 0) Whole (cond (eqb (a .kind) 1) (Cut (outlineIn a)) (Refused (a .refused)))
+
+-- the drawn outline is the first floats of the path's buffer where the answer is Whole, else of the dash buffer: so many
+unfoldable pub hzOutline : List Float → ℕ → List Float → HzDashed → HzOutline
+hzOutline path points dash a =
+    record { floats = length (outlineOf path points dash (dashedIn a)); «from_dash» = flagOut (flagIn (a .kind)) }
