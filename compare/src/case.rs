@@ -116,14 +116,17 @@ fn weight(r: &mut Rng) -> f32 {
     }
 }
 
-fn tolerance(r: &mut Rng) -> f32 {
-    match r.below(16) {
+/// Tolerances of every kind; those that cut every curve into 1,000 lines are rarer than others, for time.
+fn tolerance(r: &mut Rng, wide: bool) -> f32 {
+    match r.below(40) {
         0 => r.of(SPECIAL),
         1 => f32::from_bits(r.next() as u32),
         2 => f32::from_bits((r.next() as u32) % 0x0100_0000),
         3 => 0.0,
         4 => f32::from_bits(0x3000_0000 + (r.next() as u32 % 0x0f00_0000)),
-        5..=8 => r.below(64) as f32 / 16.0,
+        5..=14 => r.below(64) as f32 / 16.0,
+        // of the size of the coordinates
+        _ if wide => f32::from_bits(0x3e80_0000 + (r.next() as u32 % 0x4100_0000)),
         _ => 0.25,
     }
 }
@@ -183,6 +186,7 @@ pub fn random(r: &mut Rng, long: u64) -> Case {
             c => c,
         });
     }
+    let wide = kind >= 5;
     let kind = r.below(6);
     let m = match r.below(8) {
         0 => r.below(65),
@@ -197,7 +201,7 @@ pub fn random(r: &mut Rng, long: u64) -> Case {
         3 | 4 => r.below(400) as f32 / 8.0,
         _ => 0.0,
     };
-    Case { tolerance: tolerance(r), scale: r.any(), phase, intervals, calls, seed: r.next() }
+    Case { tolerance: tolerance(r, wide), scale: r.any(), phase, intervals, calls, seed: r.next() }
 }
 
 /// A case as text, floats as 8 hexadecimal digits.
