@@ -116,6 +116,23 @@ fn weight(r: &mut Rng) -> f32 {
     }
 }
 
+/// A float a few steps away.
+pub fn nudged(r: &mut Rng, x: f32) -> f32 {
+    f32::from_bits(x.to_bits().wrapping_add(r.below(7) as u32).wrapping_sub(3))
+}
+
+/// A control point with which a conic's midpoint lies about 0.001 of the chord off the quad's, where splitting is decided.
+fn near_chord(r: &mut Rng, seen: &[Point], to: Point, weight: f32) -> Point {
+    let from = if seen.is_empty() { [0.0; 2] } else { seen[r.below(seen.len() as u64) as usize] };
+    let [fx, fy, tx, ty] = [from[0], from[1], to[0], to[1]].map(f64::from);
+    let w = f64::from(weight);
+    // the midpoints are (w - 1) / (2 (w + 1)) times as far apart as the control point is from the chord's middle
+    let k = 0.001 * 2.0 * (w + 1.0) / (w - 1.0).abs();
+    let (dx, dy) = if r.one_in(2) { (ty - fy, fx - tx) } else { (tx - fx, ty - fy) };
+    let c = [((fx + tx) / 2.0 + dx * k) as f32, ((fy + ty) / 2.0 + dy * k) as f32];
+    c.map(|x| nudged(r, x))
+}
+
 /// Tolerances of every kind; those that cut every curve into 1,000 lines are rarer than others, for time.
 fn tolerance(r: &mut Rng, wide: bool) -> f32 {
     match r.below(40) {
@@ -150,7 +167,13 @@ pub fn call(r: &mut Rng, kind: u64, seen: &mut Vec<Point>) -> Call {
         0..=2 => Call::Move(p(r)),
         3..=7 => Call::Line(p(r)),
         8..=10 => Call::Quad(p(r), p(r)),
-        11..=12 => Call::Conic(p(r), p(r), weight(r)),
+        11..=12 => {
+            let (c, to, w) = (p(r), p(r), weight(r));
+            if r.one_in(4) {
+                return Call::Conic(near_chord(r, seen, to, w), to, w);
+            }
+            Call::Conic(c, to, w)
+        }
         13..=15 => Call::Cubic(p(r), p(r), p(r)),
         16..=17 => Call::Close,
         18 => Call::Rule(if r.one_in(4) { r.below(256) as u8 } else { r.below(2) as u8 }),

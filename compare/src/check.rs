@@ -673,13 +673,26 @@ fn values(r: &mut Rng, c: &Case) -> Checked {
         n => drawn[r.below(n as u64) as usize],
     });
     let t = if r.one_in(4) { r.any() } else { r.below(1001) as f32 / 1000.0 };
-    let x = if r.one_in(2) { r.any() } else { (r.below(1_100_000) as f32) * if r.one_in(2) { 1.0 } else { 0.125 } };
+    // a square and its neighbours, where the count steps; other floats
+    let n = 1 + r.below(1002) as u32;
+    let x = match r.below(3) {
+        0 => r.any(),
+        1 => case::nudged(r, (n * n) as f32),
+        _ => r.below(1_100_000) as f32 * 0.125,
+    };
     let [a, b, d, e] = p.map(v2);
+    // a tolerance at which the quad's count, or the cubic's, steps from n
+    let bend = |a: Vec2, b: Vec2, c: Vec2| (a - b * 2.0 + c).abs().max_element() * std::f32::consts::SQRT_2;
+    let quad_step = case::nudged(r, bend(a, b, d) / (4 * n * n) as f32);
+    let cubic_step = case::nudged(r, 3.0 * bend(a, b, d).max(bend(b, d, e)) / (4 * n * n) as f32);
     // SAFETY: values only.
     unsafe {
         let [ha, hb, hd, he] = p.map(pt);
         equal("quad count", ffi::hz_quad_segment_count(ha, hb, hd, c.tolerance), curves::quad_segment_count(a, b, d, c.tolerance))?;
         equal("cubic count", ffi::hz_cubic_segment_count(ha, hb, hd, he, c.tolerance), curves::cubic_segment_count(a, b, d, e, c.tolerance))?;
+        equal("quad count at a step", ffi::hz_quad_segment_count(ha, hb, hd, quad_step), curves::quad_segment_count(a, b, d, quad_step))?;
+        let (got, want) = (ffi::hz_cubic_segment_count(ha, hb, hd, he, cubic_step), curves::cubic_segment_count(a, b, d, e, cubic_step));
+        equal("cubic count at a step", got, want)?;
         let (q, w) = (ffi::hz_eval_quad(ha, hb, hd, t), curves::eval_quad(a, b, d, t));
         computed("eval_quad", q.x, w.x)?;
         computed("eval_quad", q.y, w.y)?;
