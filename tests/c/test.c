@@ -1,0 +1,309 @@
+/* The C interface's own test: each call, with buffers that are ample, exactly full, one short, empty and odd, and with states and paths of any
+ * kind. Built with -Wall -Werror; ends with 0 where all holds. */
+#include "hizlaou.h"
+
+#include <math.h>
+#include <stdio.h>
+#include <string.h>
+
+static int failed, passed;
+
+#define CHECK(what) check((what), #what, __LINE__)
+
+static void check(int holds, const char *what, int line) {
+    if (holds) {
+        passed++;
+    } else {
+        failed++;
+        printf("test.c:%d: %s\n", line, what);
+    }
+}
+
+static HzVec2 at(float x, float y) {
+    HzVec2 p = {x, y};
+    return p;
+}
+
+static int same(HzVec2 a, HzVec2 b) {
+    return memcmp(&a, &b, sizeof a) == 0;
+}
+
+/* Field by field, by bits: padding does not count. */
+static int same_state(const HzBuilder *a, const HzBuilder *b) {
+    return a->verbs == b->verbs && a->points == b->points && memcmp(&a->start_x, &b->start_x, 9 * sizeof(float)) == 0 &&
+           a->fill_rule == b->fill_rule && a->noted == b->noted && a->started == b->started;
+}
+
+enum { VERBS = 80, FLOATS = 300 };
+
+typedef struct {
+    HzBuilder state;
+    uint8_t verbs[VERBS];
+    float points[FLOATS];
+} Built;
+
+static void fresh(Built *b) {
+    b->state = hz_new();
+    memset(b->verbs, 0xa5, sizeof b->verbs);
+    for (int i = 0; i < FLOATS; i++) b->points[i] = -1234.5f;
+}
+
+/* Makes every call that takes buffers, with the lengths nv and nf, on the state s; each must be refused with `number` and change nothing. */
+static void all_refused(HzBuilder s, size_t nv, size_t nf, uint8_t number) {
+    Built b, was;
+    fresh(&b);
+    was = b;
+    HzVec2 p = at(1, 2), q = at(3, 4), r = at(5, 6);
+    HzReply replies[6] = {
+        hz_move_to(s, b.verbs, nv, b.points, nf, p),           hz_line_to(s, b.verbs, nv, b.points, nf, p),
+        hz_quad_to(s, b.verbs, nv, b.points, nf, p, q),        hz_conic_to(s, b.verbs, nv, b.points, nf, p, q, 3.0f),
+        hz_cubic_to(s, b.verbs, nv, b.points, nf, p, q, r),    hz_close(s, b.verbs, nv, b.points, nf),
+    };
+    for (int i = 0; i < 6; i++) {
+        /* close on an empty builder needs no room */
+        if (i == 5 && number == HZ_BUILDER_FULL && !s.started) continue;
+        CHECK(replies[i].refused == number);
+        CHECK(replies[i].quads == 0);
+        CHECK(same_state(&replies[i].state, &s));
+    }
+    CHECK(memcmp(&b, &was, sizeof b) == 0);
+}
+
+static void building(void) {
+    Built b;
+    fresh(&b);
+    CHECK(b.state.verbs == 0 && b.state.points == 0 && !b.state.started && !b.state.noted && b.state.fill_rule == HZ_NON_ZERO);
+    CHECK(hz_current_point(b.state).known == 0);
+    CHECK(hz_rounded_rect(b.state).known == 0);
+
+    HzReply r = hz_close(b.state, b.verbs, VERBS, b.points, FLOATS);
+    CHECK(r.refused == HZ_OK && r.state.verbs == 0);
+    r = hz_line_to(r.state, b.verbs, VERBS, b.points, FLOATS, at(8, 0));
+    CHECK(r.refused == HZ_OK && r.state.verbs == 2 && r.state.points == 2 && r.state.started);
+    CHECK(b.verbs[0] == HZ_MOVE && b.verbs[1] == HZ_LINE && b.verbs[2] == 0xa5);
+    CHECK(b.points[0] == 0 && b.points[1] == 0 && b.points[2] == 8 && b.points[3] == 0 && b.points[4] == -1234.5f);
+    r = hz_quad_to(r.state, b.verbs, VERBS, b.points, FLOATS, at(9, 1), at(8, 2));
+    r = hz_cubic_to(r.state, b.verbs, VERBS, b.points, FLOATS, at(7, 3), at(6, 4), at(5, 5));
+    CHECK(r.refused == HZ_OK && r.state.verbs == 4 && r.state.points == 7 && r.quads == 0);
+    HzPoint pen = hz_current_point(r.state);
+    CHECK(pen.known == 1 && pen.x == 5 && pen.y == 5);
+    r = hz_close(r.state, b.verbs, VERBS, b.points, FLOATS);
+    CHECK(r.refused == HZ_OK && b.verbs[4] == HZ_CLOSE);
+    pen = hz_current_point(r.state);
+    CHECK(pen.known == 1 && pen.x == 0 && pen.y == 0);
+    r = hz_move_to(r.state, b.verbs, VERBS, b.points, FLOATS, at(1, 1));
+    CHECK(r.refused == HZ_OK && r.state.start_x == 1 && r.state.verbs == 6);
+
+    /* the fill rule and the note */
+    HzBuilder s = hz_with_fill_rule(r.state, 200);
+    CHECK(s.fill_rule == HZ_EVEN_ODD && hz_with_fill_rule(s, 0).fill_rule == HZ_NON_ZERO);
+    HzRect box = {{0, 0}, {16, 8}};
+    s = hz_as_rounded_rect(s, box, -2.0f);
+    HzNote n = hz_rounded_rect(s);
+    CHECK(n.known == 1 && n.radius == 0 && same(n.rect.max, box.max));
+    s = hz_as_rounded_rect(s, box, NAN);
+    n = hz_rounded_rect(s);
+    CHECK(n.known == 0 && n.radius == 0);
+
+    /* conics */
+    fresh(&b);
+    r = hz_move_to(b.state, b.verbs, VERBS, b.points, FLOATS, at(NAN, 0));
+    r = hz_conic_to(r.state, b.verbs, VERBS, b.points, FLOATS, at(1, 1), at(2, 0), 100.0f);
+    CHECK(r.refused == HZ_OK && r.quads == HZ_MAX_QUADS && r.state.verbs == 65 && r.state.points == 129);
+    s = r.state;
+    r = hz_conic_to(s, b.verbs, VERBS, b.points, FLOATS, at(1, 1), at(2, 0), 0.0f);
+    CHECK(r.refused == HZ_OK && r.quads == 0 && r.state.verbs == 66 && b.verbs[65] == HZ_LINE);
+
+    /* a NaN keeps its bits */
+    fresh(&b);
+    uint32_t bits = 0x7fabcdef;
+    HzVec2 nan;
+    memcpy(&nan.x, &bits, 4);
+    memcpy(&nan.y, &bits, 4);
+    r = hz_move_to(b.state, b.verbs, VERBS, b.points, FLOATS, nan);
+    CHECK(memcmp(b.points, &nan, sizeof nan) == 0);
+}
+
+static void builder_refusals(void) {
+    Built b;
+    fresh(&b);
+    all_refused(b.state, 0, 0, HZ_BUILDER_FULL);
+    all_refused(b.state, VERBS, 7, HZ_ODD_FLOATS);
+    all_refused(b.state, 0, FLOATS, HZ_BUILDER_FULL);
+    HzReply r = hz_line_to(b.state, NULL, 0, NULL, 0, at(1, 1));
+    CHECK(r.refused == HZ_BUILDER_FULL && same_state(&r.state, &b.state));
+
+    /* exactly full, and one short: a line on an empty builder needs two verbs and two points */
+    CHECK(hz_line_to(b.state, b.verbs, 2, b.points, 4, at(1, 1)).refused == HZ_OK);
+    CHECK(hz_line_to(b.state, b.verbs, 1, b.points, 4, at(1, 1)).refused == HZ_BUILDER_FULL);
+    CHECK(hz_line_to(b.state, b.verbs, 2, b.points, 2, at(1, 1)).refused == HZ_BUILDER_FULL);
+    r = hz_line_to(b.state, b.verbs, 2, b.points, 4, at(1, 1));
+    all_refused(r.state, 2, FLOATS, HZ_BUILDER_FULL);
+
+    /* states that no calls leave: 7 comes after 1 and before 2 */
+    HzBuilder bad[6];
+    for (int i = 0; i < 6; i++) bad[i] = r.state;
+    bad[0].verbs = VERBS + 1;
+    bad[1].points = FLOATS / 2 + 1;
+    bad[2].started = 0;
+    bad[3].verbs = 0;
+    bad[4].points = 0;
+    bad[5].verbs = SIZE_MAX;
+    for (int i = 0; i < 6; i++) {
+        all_refused(bad[i], VERBS, FLOATS, HZ_BAD_STATE);
+        all_refused(bad[i], 1, 2, HZ_BAD_STATE);
+        all_refused(bad[i], VERBS, 3, HZ_ODD_FLOATS);
+    }
+    /* any byte but 0 says started, and a refused state comes back as it was */
+    HzBuilder odd = r.state;
+    odd.started = 7;
+    odd.fill_rule = 9;
+    CHECK(hz_close(odd, b.verbs, VERBS, b.points, FLOATS).refused == HZ_OK);
+    CHECK(hz_close(odd, b.verbs, VERBS, b.points, FLOATS).state.started == 1);
+    all_refused(odd, 2, FLOATS, HZ_BUILDER_FULL);
+}
+
+static void flattening(void) {
+    uint8_t verbs[] = {HZ_MOVE, HZ_QUAD, HZ_LINE, HZ_CLOSE};
+    float points[] = {0, 0, 8, 8, 16, 0, 16, 4};
+    float out[16];
+    size_t ends[2];
+    for (int i = 0; i < 16; i++) out[i] = 7;
+    HzFlattened f = hz_flatten(verbs, 4, points, 8, 0.25f, out, 16, ends, 2);
+    CHECK(f.refused == HZ_OK && f.points == 8 && f.polylines == 1 && f.starts == 1 && f.lines == 1 && f.counts == 5 && f.closings == 1);
+    CHECK(ends[0] == 8 && out[10] == 16 && out[12] == 16 && out[13] == 4 && out[14] == 0 && out[15] == 0);
+
+    float kept[16];
+    memcpy(kept, out, sizeof out);
+    CHECK(hz_flatten(verbs, 4, points, 8, 0.25f, out, 14, ends, 2).refused == HZ_OUTPUT_FULL);
+    CHECK(hz_flatten(verbs, 4, points, 8, 0.25f, out, 16, ends, 0).refused == HZ_OUTPUT_FULL);
+    CHECK(hz_flatten(verbs, 4, points, 8, 0.25f, out, 15, ends, 2).refused == HZ_ODD_FLOATS);
+    CHECK(hz_flatten(verbs, 4, points, 7, 0.25f, out, 16, ends, 2).refused == HZ_ODD_FLOATS);
+    CHECK(hz_flatten(verbs, 4, points, 6, 0.25f, out, 16, ends, 2).refused == HZ_BAD_PATH);
+    f = hz_flatten(verbs, 4, points, 8, 0.25f, NULL, 0, NULL, 0);
+    CHECK(f.refused == HZ_OUTPUT_FULL && f.points == 0 && f.counts == 0);
+    CHECK(memcmp(kept, out, sizeof out) == 0);
+    f = hz_flatten(NULL, 0, NULL, 0, 0.25f, NULL, 0, NULL, 0);
+    CHECK(f.refused == HZ_OK && f.points == 0);
+
+    CHECK(hz_carried_count(verbs, 4, points, 8, 0.25f, 1).count == 5);
+    CHECK(hz_carried_count(verbs, 4, points, 8, 0.25f, 2).count == 0);
+    CHECK(hz_carried_count(verbs, 4, points, 8, 0.25f, 99).count == 0);
+    CHECK(hz_carried_count(verbs, 4, points, 6, 0.25f, 1).refused == HZ_BAD_PATH);
+
+    CHECK(hz_check(verbs, 4, points, 8) == HZ_OK);
+    CHECK(hz_check(verbs, 4, points, 5) == HZ_ODD_FLOATS);
+    CHECK(hz_check(verbs + 1, 3, points, 6) == HZ_BAD_PATH);
+    verbs[2] = 5;
+    CHECK(hz_check(verbs, 4, points, 8) == HZ_NO_VERB);
+    static uint8_t many[HZ_MAX_VERBS + 1];
+    CHECK(hz_check(many, HZ_MAX_VERBS + 1, NULL, 0) == HZ_OVER_LIMIT);
+    CHECK(hz_check(many, HZ_MAX_VERBS, NULL, 0) == HZ_BAD_PATH);
+}
+
+static void questions(void) {
+    uint8_t verbs[] = {HZ_MOVE, HZ_LINE, HZ_LINE, HZ_LINE};
+    float points[] = {0, 0, 4, 0, 1, 1, 0, 4};
+    HzBounds b = hz_bounds(verbs, 4, points, 8);
+    CHECK(b.refused == HZ_OK && hz_width(b.rect) == 4 && hz_height(b.rect) == 4);
+    CHECK(!hz_is_empty(b.rect) && hz_contains(b.rect, at(4, 4)) && !hz_contains(b.rect, at(5, 4)));
+    b = hz_bounds(verbs, 4, points, 7);
+    CHECK(b.refused == HZ_ODD_FLOATS && hz_is_empty(b.rect) && b.rect.min.x == INFINITY && hz_width(b.rect) == 0);
+    b = hz_bounds(NULL, 0, NULL, 0);
+    CHECK(b.refused == HZ_OK && hz_is_empty(b.rect));
+
+    HzAnswer a = hz_is_finite(verbs, 4, points, 8);
+    CHECK(a.refused == HZ_OK && a.holds);
+    a = hz_is_within_tessellation_range(verbs, 4, points, 8);
+    CHECK(a.refused == HZ_OK && a.holds);
+    points[4] = 16777218.0f;
+    CHECK(!hz_is_within_tessellation_range(verbs, 4, points, 8).holds && hz_is_finite(verbs, 4, points, 8).holds);
+    points[4] = INFINITY;
+    CHECK(!hz_is_finite(verbs, 4, points, 8).holds);
+    a = hz_is_finite(verbs, 4, points, 6);
+    CHECK(a.refused == HZ_BAD_PATH && !a.holds);
+    points[4] = 1;
+
+    HzVerdict v = hz_convexity(verbs, 4, points, 8);
+    CHECK(v.refused == HZ_OK && v.convexity == HZ_CONCAVE);
+    v = hz_convexity(verbs, 3, points, 6);
+    CHECK(v.refused == HZ_OK && v.convexity == HZ_CONVEX);
+    CHECK(hz_convexity(verbs, 3, points, 8).refused == HZ_BAD_PATH);
+    v = hz_polygon_convexity(points, 8);
+    CHECK(v.refused == HZ_OK && v.convexity == HZ_CONCAVE);
+    v = hz_polygon_convexity(points, 7);
+    CHECK(v.refused == HZ_ODD_FLOATS && v.convexity == HZ_CONCAVE);
+    CHECK(hz_polygon_convexity(NULL, 0).convexity == HZ_CONVEX);
+}
+
+static void values(void) {
+    HzVec2 a = at(0, 0), b = at(8, 8), c = at(16, 0);
+    CHECK(hz_sqrt(2.0f) == sqrtf(2.0f) && isnan(hz_sqrt(-1.0f)));
+    CHECK(hz_segment_count(998001.0f) == 999 && hz_segment_count(INFINITY) == HZ_MAX_SEGMENTS && hz_segment_count(NAN) == 1);
+    CHECK(hz_quad_segment_count(a, b, c, HZ_DEFAULT_TOLERANCE) == 5);
+    CHECK(hz_cubic_segment_count(a, at(0, 8), at(16, 8), c, HZ_DEFAULT_TOLERANCE) == 9);
+    CHECK(same(hz_eval_quad(a, b, c, 0.5f), at(8, 4)));
+    CHECK(same(hz_eval_cubic(a, at(0, 8), at(16, 8), c, 0.5f), at(8, 6)));
+    CHECK(hz_tolerance_for_scale(0.25f, 2.0f) == 0.125f && hz_tolerance_for_scale(0.25f, 0.0f) == 0.25f);
+}
+
+static void dashing(void) {
+    uint8_t verbs[] = {HZ_MOVE, HZ_LINE};
+    float points[] = {0, 0, 8, 0};
+    float pattern[65] = {2, 1};
+    float scratch[4], drawn[12];
+    size_t ends[1];
+    uint8_t laid[6];
+    memset(laid, 0xa5, sizeof laid);
+    HzDashed d = hz_dash_path(verbs, 2, points, 4, 9, pattern, 2, 0, 0.25f, scratch, 4, ends, 1, laid, 6, drawn, 12);
+    CHECK(d.refused == HZ_OK && d.kind == HZ_CUT && d.verbs == 6 && d.points == 6 && d.scratch == 2 && d.polylines == 1 && d.fill_rule == HZ_EVEN_ODD);
+    float want[] = {0, 0, 2, 0, 3, 0, 5, 0, 6, 0, 8, 0};
+    CHECK(memcmp(drawn, want, sizeof want) == 0 && memcmp(scratch, points, sizeof points) == 0 && ends[0] == 2);
+    CHECK(memcmp(laid, "\0\1\0\1\0\1", 6) == 0);
+    HzOutline o = hz_drawn_outline(points, 4, 2, drawn, 12, d);
+    CHECK(o.from_dash == 1 && o.floats == 12);
+    d.points = 7;
+    CHECK(hz_drawn_outline(points, 4, 2, drawn, 12, d).floats == 0);
+
+    /* outputs one short: first the scratch, then the dashes */
+    memset(laid, 0xa5, sizeof laid);
+    memset(scratch, 0, sizeof scratch);
+    d = hz_dash_path(verbs, 2, points, 4, 0, pattern, 2, 0, 0.25f, scratch, 2, ends, 1, laid, 6, drawn, 12);
+    CHECK(d.refused == HZ_OUTPUT_FULL && d.kind == HZ_REFUSED && scratch[2] == 0);
+    d = hz_dash_path(verbs, 2, points, 4, 0, pattern, 2, 0, 0.25f, scratch, 4, ends, 1, laid, 5, drawn, 12);
+    CHECK(d.refused == HZ_OUTPUT_FULL && scratch[2] == 8 && laid[0] == 0xa5);
+    d = hz_dash_path(verbs, 2, points, 4, 0, pattern, 2, 0, 0.25f, scratch, 4, ends, 1, laid, 6, drawn, 10);
+    CHECK(d.refused == HZ_OUTPUT_FULL && d.verbs == 0);
+    CHECK(hz_drawn_outline(points, 4, 2, drawn, 12, d).floats == 0);
+    CHECK(hz_dash_path(verbs, 2, points, 4, 0, pattern, 2, 0, 0.25f, scratch, 3, ends, 1, laid, 6, drawn, 12).refused == HZ_ODD_FLOATS);
+    CHECK(hz_dash_path(verbs, 2, points, 4, 0, pattern, 65, 0, 0.25f, scratch, 4, ends, 1, laid, 6, drawn, 12).refused == HZ_LONG_PATTERN);
+    CHECK(hz_dash_path(verbs, 2, points, 2, 0, pattern, 65, 0, 0.25f, scratch, 4, ends, 1, laid, 6, drawn, 12).refused == HZ_BAD_PATH);
+
+    /* whole: no output is needed */
+    float fine[] = {0.125f, 0.125f};
+    d = hz_dash_path(verbs, 2, points, 4, 1, fine, 2, 0, 0.25f, NULL, 0, NULL, 0, NULL, 0, NULL, 0);
+    CHECK(d.refused == HZ_OK && d.kind == HZ_WHOLE && d.fill_rule == 0);
+    o = hz_drawn_outline(points, 4, 2, NULL, 0, d);
+    CHECK(o.from_dash == 0 && o.floats == 4);
+    d = hz_dash_path(verbs, 2, points, 4, 1, NULL, 0, 0, 0.25f, NULL, 0, NULL, 0, NULL, 0, NULL, 0);
+    CHECK(d.refused == HZ_OK && d.kind == HZ_WHOLE);
+    d = hz_dash_path(verbs, 2, points, 4, 1, pattern, 2, 0, 0.25f, NULL, 0, NULL, 0, NULL, 0, NULL, 0);
+    CHECK(d.refused == HZ_OUTPUT_FULL);
+
+    CHECK(hz_is_usable(pattern, 2, 0) && !hz_is_usable(pattern, 2, INFINITY) && !hz_is_usable(NULL, 0, 0));
+    HzLineStyle s = hz_line_style(4);
+    CHECK(s.refused == HZ_OK && s.len == 4 && s.values[0] == 12 && s.values[3] == 4 && s.values[4] == 0);
+    CHECK(hz_line_style(0).len == 0 && hz_line_style(0).refused == HZ_OK);
+    CHECK(hz_line_style(9).refused == HZ_NO_STYLE && hz_line_style(SIZE_MAX).refused == HZ_NO_STYLE);
+}
+
+int main(void) {
+    values();
+    building();
+    builder_refusals();
+    flattening();
+    questions();
+    dashing();
+    printf("C interface: %d checks passed, %d failed\n", passed, failed);
+    return failed != 0;
+}
