@@ -10,7 +10,8 @@
  * length 0 the pointer may be NULL. A buffer that is written to must not overlap another
  * buffer of the same call. Only what a call is said to write changes.
  *
- * Coordinates. A point is two successive floats, x and y. Copied coordinates keep their bits, NaNs too.
+ * Coordinates. A point is two successive floats, x and y. Copied coordinates keep their bits, NaNs too (tested; a NaN's bits are
+ * open in what is proved).
  *
  * Paths. Verbs are bytes: see HZ_MOVE to HZ_CLOSE; they use 1, 1, 2, 3, 0 points, end to end in the coordinate buffer. A path that is handed in
  * begins with a move, unless it is empty. Limits: HZ_MAX_VERBS, HZ_MAX_POINTS.

@@ -323,7 +323,7 @@ impl PathBuilder {
 
     // ---- refusals
 
-    // Whether no list of calls leaves this state, in buffers for so many verbs and points.
+    // 7: a state that buffers for so many verbs and points cannot hold, or whose fields are at odds.
     fn is_broken(self, verbs: usize, points: usize) -> bool
         ensures { λ r. ⌜ r ≡ badState self verbs points ⌝ }
     {

@@ -11,6 +11,10 @@ use Rattle.builder.specs.declared.Call.the-variants.{WithFillRule}
 use Rattle.builder.specs.Build.{outcome as built, called, told}
 use Rattle.capi.specs.declared.HzBuilder.{HzBuilder}
 use Rattle.capi.specs.declared.HzReply.{HzReply}
+use Rattle.claims.specs.declared.Replayed.{Replayed}
+use Rattle.claims.specs.Replay as replay
+use Rattle.capi.specs.declared.HzReplayed.{HzReplayed}
+use Rattle.capi.specs.Replay.{replayedOut, replayOutcome, played, hzReplayed}
 use Rattle.capi.specs.Builder.{ruleIn, stateIn, stateOut, replyOut, outcome, outcomeOut}
 
 -- a call that takes the buffers
@@ -29,3 +33,8 @@ pub ruled-out : (s : HzBuilder) (b : PathBuilder) (r : FillRule) (n : ℕ) {h : 
     → h ≡ stateOut t → t ≡ told b (WithFillRule r) → r ≡ ruleIn n → b ≡ stateIn s → h ≡ stateOut (told (stateIn s) (WithFillRule (ruleIn n)))
 ruled-out s b r n given made ruled handed =
     told-out s b (WithFillRule (ruleIn n)) given (made ∙ ap (λ r. told b (WithFillRule r)) ruled) handed
+
+-- a played list
+pub replay-out : (r : Replayed) (ks : List ℕ) (ns : List Float) (vs : List ℕ) (fs : List Float) {q : HzReplayed} {vs' : List ℕ} {fs' : List Float}
+    → q ≡ replayedOut r → replay.outcome r vs' fs' ≡ replay.replayed ks ns vs fs → replayOutcome q vs' fs' ≡ hzReplayed ks ns vs fs
+replay-out r ks ns vs fs {vs' = vs'} {fs' = fs'} given made = ap (λ q. replayOutcome q vs' fs') given ∙ ap played made

@@ -1,3 +1,4 @@
 pub mod Convexity
 pub mod Builder
 pub mod Dash
+pub mod Replay

@@ -15,6 +15,7 @@ ghost use Rattle.convexity.specs.Answer.{polygonVerdict, pathVerdict};
 ghost use Rattle.pattern.specs.Cycle.{usable};
 ghost use Rattle.pattern.specs.Style.{lineStyle};
 ghost use Rattle.capi.specs.Builder.{ruleIn, ruleOut, flagIn, flagOut, stateIn, stateOut, replyWith, replyOut, outcome, outcomeOut, pointOut, noteOut};
+ghost use Rattle.capi.specs.Replay.{replayedOut, replayOutcome, hzReplayed};
 ghost use Rattle.capi.specs.Dash.{uncut, cutOut, dashedOut, dashOutcome, hzDashing, outlineIn, dashedIn, hzOutline};
 ghost use Rattle.capi.specs.Convexity.{convexityByte, verdictOut};
 use bounds::reply::Answer;
@@ -23,6 +24,7 @@ use builder::CurrentPoint;
 use builder::Note;
 use builder::PathBuilder;
 use builder::Reply;
+use claims::Replayed;
 use convexity::answer::Convexity;
 use convexity::answer::Verdict;
 use dash::Dashed;
@@ -372,6 +374,38 @@ pub extern "C" fn hz_close(state: HzBuilder, verbs: &mut [u8], points: &mut [f32
     ensures { λ r. ⌜ outcome r (now (verbs .exit)) (now (points .exit)) ≡ outcomeOut state (called (stateIn state) (now (verbs .entry)) (now (points .entry)) Close) ⌝ }
 {
     reply_out(state, state_in(state).close(verbs, points))
+}
+
+// What a played list of calls left: the state, the calls played, and how many of them were refused.
+#[repr(C)]
+pub struct HzReplayed {
+    pub state: HzBuilder,
+    pub calls: usize,
+    pub refused: usize,
+}
+
+fn replayed_out(r: Replayed) -> HzReplayed
+    ensures { λ q. ⌜ q ≡ replayedOut r ⌝ }
+{
+    let state = r.state;
+    HzReplayed {
+        state: state_out(state),
+        calls: r.calls,
+        refused: r.refused,
+    }
+}
+
+// A whole encoded list of calls on a fresh builder: one crossing from C for all of them.
+#[no_mangle]
+pub extern "C" fn hz_replay(
+    kinds: &[u8],
+    numbers: &[f32],
+    verbs: &mut [u8],
+    points: &mut [f32],
+) -> HzReplayed
+    ensures { λ r. ⌜ replayOutcome r (now (verbs .exit)) (now (points .exit)) ≡ hzReplayed (now (kinds .entry)) (now (numbers .entry)) (now (verbs .entry)) (now (points .entry)) ⌝ }
+{
+    replayed_out(claims::replay(kinds, numbers, verbs, points))
 }
 
 // ---- a path that is handed in

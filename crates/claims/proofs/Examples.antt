@@ -10,12 +10,12 @@ use Rattle.float.specs.Small.{abs, isFinite, maximum, remEuclid}
 use Rattle.float.specs.Root.{squareRoot, twiceRoot, wholeRoot}
 use Rattle.float.specs.Count.{segmentCount}
 use Rattle.vec2.specs.declared.Vec2.{Vec2}
-use Rattle.vec2.specs.Vec2.{vec, origin, anyNan, allFinite}
+use Rattle.vec2.specs.Vec2.{vec, anyNan, allFinite}
 use Rattle.path.specs.declared.Segment.{Segment}
 use Rattle.path.specs.declared.Segment.the-variants.{Move, Line}
 use Rattle.conic.specs.Conic.{straight}
 use Rattle.curve.specs.Count.{bend, quadCount, cubicCount}
-use Rattle.builder.specs.declared.Call.the-variants.{ConicTo}
+use Rattle.builder.specs.declared.Call.the-variants.{MoveTo, ConicTo}
 use Rattle.builder.specs.Call.{lays}
 use Rattle.builder.specs.Laid.{lay, puts, laidFrom, laid}
 use Rattle.pattern.specs.Cycle.{cuts}
@@ -27,8 +27,9 @@ use Rattle.dash.specs.Runs.{walkOf}
 abbrev at : ℕ → ℕ → Vec2
 at a b = vec (whole a) (whole b)
 
-abbrev dashed : List Float → List Vec2 → List Segment
-dashed intervals ps = walkOf intervals f0 ps
+-- the pattern cuts, and its walk of the polyline draws these
+abbrev Draws : List Float → List Vec2 → List Segment → Type 0
+Draws intervals ps ss = (cuts intervals f0 quarter ≡ true) × (walkOf intervals f0 ps ≡ ss)
 
 abbrev eighth : Float
 eighth = ofBits binary32 0x3e00_0000
@@ -46,13 +47,14 @@ pub record Starred : Type 0 where
   pub quad-straight : quadCount quarter (at 0 0) (at 8 0) (at 16 0) ≡ 1
   pub cubic-bent : cubicCount quarter (at 0 0) (at 0 8) (at 16 8) (at 16 0) ≡ 9
   pub dash-2-1 :
-      dashed (whole 2 ∷ whole 1 ∷ []) (at 0 0 ∷ at 8 0 ∷ [])
-      ≡ Move (at 0 0) ∷ Line (at 2 0) ∷ Move (at 3 0) ∷ Line (at 5 0) ∷ Move (at 6 0) ∷ Line (at 8 0) ∷ []
-  pub dash-5 : dashed (whole 5 ∷ []) (at 0 0 ∷ at 8 0 ∷ []) ≡ Move (at 0 0) ∷ Line (at 5 0) ∷ []
-  pub corner-6-2 : dashed (whole 6 ∷ whole 2 ∷ []) (at 0 0 ∷ at 4 0 ∷ at 4 4 ∷ []) ≡ Move (at 0 0) ∷ Line (at 4 0) ∷ Line (at 4 2) ∷ []
-  pub corner-2-1 : dashed (whole 2 ∷ whole 1 ∷ []) (at 0 0 ∷ at 2 0 ∷ at 2 4 ∷ []) ≡ Move (at 0 0) ∷ Line (at 2 0) ∷ Line (at 2 4) ∷ []
+      Draws (whole 2 ∷ whole 1 ∷ []) (at 0 0 ∷ at 8 0 ∷ [])
+      (Move (at 0 0) ∷ Line (at 2 0) ∷ Move (at 3 0) ∷ Line (at 5 0) ∷ Move (at 6 0) ∷ Line (at 8 0) ∷ [])
+  pub dash-5 : Draws (whole 5 ∷ []) (at 0 0 ∷ at 8 0 ∷ []) (Move (at 0 0) ∷ Line (at 5 0) ∷ [])
+  pub corner-6-2 : Draws (whole 6 ∷ whole 2 ∷ []) (at 0 0 ∷ at 4 0 ∷ at 4 4 ∷ []) (Move (at 0 0) ∷ Line (at 4 0) ∷ Line (at 4 2) ∷ [])
+  pub corner-2-1 : Draws (whole 2 ∷ whole 1 ∷ []) (at 0 0 ∷ at 2 0 ∷ at 2 4 ∷ []) (Move (at 0 0) ∷ Line (at 2 0) ∷ Line (at 2 4) ∷ [])
   pub whole-fine : cuts (eighth ∷ eighth ∷ []) f0 quarter ≡ false
-  pub weight-0 : laid (ConicTo (at 1 1) (at 2 0) f0 ∷ []) (0 ∷ []) ≡ Move origin ∷ Line (at 2 0) ∷ []
+  -- behind a move to NaN, whose 64 quads of weight 100 a program shows
+  pub weight-0 : laid (MoveTo (vec nan nan) ∷ ConicTo (at 1 1) (at 2 0) f0 ∷ []) (0 ∷ 0 ∷ []) ≡ Move (vec nan nan) ∷ Line (at 2 0) ∷ []
 
 pub starred : Starred
 unfolding segmentCount bend anyNan allFinite straight lays lay puts laidFrom walkFrom cutFrom trace traced squareRoot twiceRoot wholeRoot isFinite maximum remEuclid abs isNan add sub mul div rem lt le eq neg sum round size units odd span climb ofInt ofBits ofFields trailingZeros
@@ -68,10 +70,10 @@ starred =
       quad-bent = refl;
       quad-straight = refl;
       cubic-bent = refl;
-      dash-2-1 = refl;
-      dash-5 = refl;
-      corner-6-2 = refl;
-      corner-2-1 = refl;
+      dash-2-1 = (refl, refl);
+      dash-5 = (refl, refl);
+      corner-6-2 = (refl, refl);
+      corner-2-1 = (refl, refl);
       whole-fine = refl;
       weight-0 = refl;
     }

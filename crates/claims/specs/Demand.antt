@@ -2,22 +2,24 @@
 -- included, about every tolerance, pattern and phase, and about outputs of any length and content. Definitions only.
 use mathlib.Core.Path.{_≡_}
 use Prim.Native.Nat.{ℕ, _*_}
-use mathlib.Core.List.{List}
-use lib.ListN.{take}
+use mathlib.Core.Bool.{true}
+use mathlib.Core.List.{List, _∷_, _++_}
+use lib.ListN.{length, take}
 use lib.Ieee.{Float}
 use Rattle.vec2.specs.Points.{pointsIn}
 use Rattle.path.specs.declared.FillRule.{FillRule}
-use Rattle.path.specs.Segment.{segments}
+use Rattle.path.specs.declared.Segment.{Segment}
+use Rattle.path.specs.Segment.{isCurve, segments}
 use Rattle.path.specs.Check.{badPath}
 use Rattle.builder.specs.declared.Call.{Call}
 use Rattle.builder.specs.Build.{Built, over, run}
 use Rattle.builder.specs.Laid.{laidBy, pathVerbs, pathFloats}
 use Rattle.flatten.specs.Flatten as flat
-use Rattle.flatten.specs.Kept.{Kept}
+use Rattle.flatten.specs.Kept.{carried, Kept}
 use Rattle.dash.specs.declared.Outline.{Outline}
 use Rattle.dash.specs.declared.Dashed.the-variants.{Cut}
 use Rattle.dash.specs.Dash as dash
-use Rattle.dash.specs.Runs.{Laid}
+use Rattle.dash.specs.Runs.{CutIntoRuns}
 
 -- what the calls leave
 abbrev pub built : List Call → List ℕ → List Float → Built
@@ -42,6 +44,13 @@ Flattens =
     f .answer .refused ≡ 0 →
     Kept tolerance (laidBy cs bs fs) (f .answer) (pointsIn (take (2 * f .answer .points) (f .floats))) (take (f .answer .polylines) (f .ends))
 
+-- The N that a curve of the laid list is written with is what `carried_count` answers at its verb.
+abbrev pub Carries : Type 0
+Carries =
+    (cs : List Call) (bs : List ℕ) (fs : List Float) (tolerance : Float) (pre : List Segment) (s : Segment) (post : List Segment) →
+    laidBy cs bs fs ≡ pre ++ s ∷ post → isCurve s ≡ true →
+    flat.carriedCount (pathVerbs (built cs bs fs)) (pathFloats (built cs bs fs)) tolerance (length pre) ≡ flat.carriedBy 0 (carried tolerance pre s)
+
 -- what dashing that path answers, and leaves
 abbrev pub dashing : List Call → List ℕ → List Float → FillRule → List Float → Float → Float → List Float → List ℕ → List ℕ → List Float → dash.Outcome
 dashing cs bs fs rule intervals phase tolerance scratch ends verbs points =
@@ -53,9 +62,10 @@ Dashes =
     (cs : List Call) (bs : List ℕ) (fs : List Float) (rule : FillRule) (intervals : List Float) (phase tolerance : Float)
     (scratch : List Float) (ends verbs : List ℕ) (points : List Float) (o : Outline) →
     let d = dashing cs bs fs rule intervals phase tolerance scratch ends verbs points in
-    d .reply ≡ Cut o → Laid (laidBy cs bs fs) intervals phase tolerance rule o d
+    d .reply ≡ Cut o → CutIntoRuns (laidBy cs bs fs) intervals phase tolerance rule o d
 
 pub record Demand3 : Type 0 where
   pub builds : Builds
   pub flattens : Flattens
+  pub carries : Carries
   pub dashes : Dashes

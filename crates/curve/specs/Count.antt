@@ -1,9 +1,8 @@
 -- How many lines a curve becomes, and its points ("Count" of the scope; `quad_segment_count`, `cubic_segment_count`, `eval_quad`, `eval_cubic` and
 -- `tolerance_for_scale` of flatten.rs). Every step is rounded, in the source's order. Definitions only.
-use Prim.Native.Nat.{ℕ, _-_, _*_, _^_, _≤_, _<_}
-use mathlib.Core.Bool.{Bool, true, false, not, _||_, cond}
-use mathlib.Core.Path.{_≡_}
-use lib.Ieee.{Float, nan, inf, fin, binary32, lt, le, up, down, ofBits}
+use Prim.Native.Nat.{ℕ}
+use mathlib.Core.Bool.{not, _||_, cond}
+use lib.Ieee.{Float, nan, binary32, le, ofBits}
 use Rattle.float.specs.Arith.{f0, f1, f2, f3, f4, minus, times, over, whole}
 use Rattle.float.specs.Small.{maximum, isFinite}
 use Rattle.float.specs.Count.{segmentCount}
@@ -47,33 +46,6 @@ quadCount tol a c p = segmentCount (quadS tol a c p)
 
 abbrev pub cubicCount : Float → Vec2 → Vec2 → Vec2 → Vec2 → ℕ
 cubicCount tol a c d p = segmentCount (cubicS tol a c d p)
-
--- ---- what demand 3 says of N: s is an exact fraction of whole numbers, and an infinite s is over every number
-
-abbrev pub positive : Float → Bool
-positive s = lt f0 s
-
--- k < s
-abbrev pub Under : ℕ → Float → Type 0
-Under k nan = ⊥
-Under k (inf true) = ⊥
-Under k (inf false) = Unit {0}
-Under k (fin true m e) = ⊥
-Under k (fin false m e) = k * down e < m * up e
-
--- s · (2 ^ 23 − 1) ≤ k · 2 ^ 23
-abbrev pub Nearly : Float → ℕ → Type 0
-Nearly nan k = ⊥
-Nearly (inf s) k = ⊥
-Nearly (fin true m e) k = ⊥
-Nearly (fin false m e) k = m * up e * (2 ^ 23 - 1) ≤ k * 2 ^ 23 * down e
-
-pub record Counted (s : Float) (n : ℕ) : Type 0 where
-  pub one : 1 ≤ n
-  pub most : n ≤ 1000
-  pub flat : positive s ≡ false → n ≡ 1
-  pub above : positive s ≡ true → Under ((n - 1) * (n - 1)) s
-  pub near : positive s ≡ true → n < 1000 → Nearly s (n * n)
 
 -- ---- curve points
 

@@ -15,7 +15,7 @@ fn second_difference(a: Vec2, b: Vec2, c: Vec2) -> Vec2
     a.sub(b.mul(2.0)).add(c)
 }
 
-// The larger component times √2. It squares nothing, so that it does not overflow; a NaN stays a NaN.
+// The larger component times √2: a square would overflow earlier. A NaN stays a NaN.
 fn second_difference_magnitude(v: Vec2) -> f32
     ensures { λ r. ⌜ r ≡ bend v ⌝ }
 {

@@ -25,7 +25,7 @@ use Rattle.dash.specs.declared.Outline.{Outline}
 use Rattle.dash.specs.declared.Dashed.{Dashed}
 use Rattle.dash.specs.declared.Dashed.the-variants.{Cut}
 use Rattle.dash.specs.Dash.{refusal, dashes, scratchFits, outFits, outlineFor, Outcome, outcome, answered, dashing}
-use Rattle.dash.specs.Runs.{Laid}
+use Rattle.dash.specs.Runs.{CutIntoRuns}
 use Rattle.dash.proofs.Caps.{both, fits}
 use Rattle.dash.proofs.Scratch.{front}
 
@@ -43,7 +43,7 @@ module _ (path : List Segment) (intervals : List Float) (phase tolerance : Float
   abbrev whole : Dashed → Outcome
   whole r = outcome r (sets scratch 0 (flat ps)) (sets ends 0 es) (sets vs 0 (bytesOf ss)) (sets fs 0 (flat (allPoints ss)))
 
-  laid : scratchFits ps es scratch ends ≡ true → outFits ss vs fs ≡ true → outlineFor ss (length ps) (length es) rule ≡ o → Laid path intervals phase tolerance rule o (whole (Cut o))
+  laid : scratchFits ps es scratch ends ≡ true → outFits ss vs fs ≡ true → outlineFor ss (length ps) (length es) rule ≡ o → CutIntoRuns path intervals phase tolerance rule o (whole (Cut o))
   laid f g q =
       let a = both (leb (length ps) (length scratch / 2)) (leb (length es) (length ends)) f in
       let y : length ps ≤ length scratch / 2 = leb-true _ _ (a .0) in
@@ -66,18 +66,18 @@ module _ (path : List Segment) (intervals : List Float) (phase tolerance : Float
 
   -- only one of the answers is a Cut
   answers : (n : ℕ) (c s u : Bool) → scratchFits ps es scratch ends ≡ s → outFits ss vs fs ≡ u → answered n c s u ps es ss rule scratch ends vs fs .reply ≡ Cut o
-      → Laid path intervals phase tolerance rule o (answered n c s u ps es ss rule scratch ends vs fs)
+      → CutIntoRuns path intervals phase tolerance rule o (answered n c s u ps es ss rule scratch ends vs fs)
   answers (suc n) c s u f g h = let z : _≡_ {A = ℕ} 0 1 = cc in absurd (omega arith)
   answers zero false s u f g h = let z : _≡_ {A = ℕ} 0 1 = cc in absurd (omega arith)
   answers zero true false u f g h = let z : _≡_ {A = ℕ} 0 1 = cc in absurd (omega arith)
   answers zero true true false f g h = let z : _≡_ {A = ℕ} 0 1 = cc in absurd (omega arith)
   answers zero true true true f g h =
       let q : outlineFor ss (length ps) (length es) rule ≡ o = cc in
-      subst (λ (z : Dashed). Laid path intervals phase tolerance rule o (whole z)) (sym h) (laid f g q)
+      subst (λ (z : Dashed). CutIntoRuns path intervals phase tolerance rule o (whole z)) (sym h) (laid f g q)
 
 -- what `dash_path` ensures of its outcome b
 pub dash-runs : (verbs : List ℕ) (points : List Float) (rule : FillRule) (intervals : List Float) (phase tolerance : Float) (scratch : List Float) (ends vs : List ℕ) (fs : List Float) (b : Outcome) (o : Outline)
-    → b ≡ dashing verbs points rule intervals phase tolerance scratch ends vs fs → b .reply ≡ Cut o → Laid (segments verbs points) intervals phase tolerance rule o b
+    → b ≡ dashing verbs points rule intervals phase tolerance scratch ends vs fs → b .reply ≡ Cut o → CutIntoRuns (segments verbs points) intervals phase tolerance rule o b
 dash-runs verbs points rule intervals phase tolerance scratch ends vs fs b o e h =
-    subst (λ (z : Outcome). Laid (segments verbs points) intervals phase tolerance rule o z) (sym e)
+    subst (λ (z : Outcome). CutIntoRuns (segments verbs points) intervals phase tolerance rule o z) (sym e)
     (answers (segments verbs points) intervals phase tolerance rule scratch ends vs fs o (refusal verbs points intervals (length scratch) (length fs)) (cuts intervals phase tolerance) _ _ refl refl (sym (ap (λ (z : Outcome). z .reply) e) ∙ h))

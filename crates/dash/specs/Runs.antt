@@ -26,7 +26,7 @@ abbrev pub walkOf : List Float → Float → List Vec2 → List Segment
 walkOf intervals phase p = let cs = cycleOf intervals in drawn false (walkPolyline cs (startOf cs phase (period intervals)) p)
 
 -- of the path's segments, an outline o and the outcome b
-pub record Laid (path : List Segment) (intervals : List Float) (phase tolerance : Float) (rule : FillRule) (o : Outline) (b : Outcome) : Type 0 where
+pub record CutIntoRuns (path : List Segment) (intervals : List Float) (phase tolerance : Float) (rule : FillRule) (o : Outline) (b : Outcome) : Type 0 where
   pub segments : List Segment
   -- the dash buffers' filled parts are the segments' bytes and points
   pub verbs : take (o .verbs) (b .verbs) ≡ bytesOf segments

@@ -127,15 +127,19 @@ unfoldable pub total : (Spot → Segment → ℕ) → Spot → List Segment → 
 total f w [] = 0
 total f w (s ∷ ss) = f w s + total f (after w s) ss
 
+-- kept starts: subpaths with a drawn verb
 unfoldable pub keptStarts : List Segment → ℕ
 keptStarts ss = total (λ w s. one (opens w s)) nowhere ss
 
+-- lines
 unfoldable pub lines : List Segment → ℕ
 lines ss = total (λ w s. one (isLine s)) nowhere ss
 
+-- counts: the sum of all curves' N
 unfoldable pub counts : Float → List Segment → ℕ
 counts tol ss = total (curveCount tol) nowhere ss
 
+-- added closings: the move's points that closes write
 unfoldable pub addedClosings : List Segment → ℕ
 addedClosings ss = total (λ w s. one (adds w s)) nowhere ss
 

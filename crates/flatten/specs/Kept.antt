@@ -10,7 +10,8 @@ use Rattle.vec2.specs.Vec2.{origin}
 use Rattle.path.specs.declared.Segment.{Segment}
 use Rattle.path.specs.declared.Segment.the-variants.{Move, Line, Quad, Cubic, Close}
 use Rattle.path.specs.Segment.{isDrawn, isCurve, endOf}
-use Rattle.curve.specs.Count.{quadS, cubicS, Counted}
+use Rattle.float.specs.Count.{Counted}
+use Rattle.curve.specs.Count.{quadS, cubicS}
 use Rattle.flatten.specs.declared.Spot.{Spot}
 use Rattle.flatten.specs.declared.Flattened.{Flattened}
 use Rattle.flatten.specs.Flatten.{nowhere, spot, places, opens, onlyIf, written, pointsOut, endsOut, keptStarts, lines, counts, addedClosings, countAt}

@@ -35,7 +35,7 @@ pub struct Carried {
 }
 
 // Where a flattening stands: the latest move's point, with which its polyline begins; the point that the next verb is drawn from; the point written
-// last; and whether the polyline has a drawn verb, so that its start is written.
+// last, or the move's point before the first drawn verb; and whether the polyline has a drawn verb, so that its start is written.
 pub struct Spot {
     pub start: Vec2,
     pub pen: Vec2,

@@ -208,7 +208,7 @@ pub fn point_at(points: &[f32], k: usize) -> Vec2
 }
 
 // The segment of a verb whose points begin at point k.
-pub fn segment_at(verb: u8, points: &[f32], k: usize) -> Segment
+fn segment_at(verb: u8, points: &[f32], k: usize) -> Segment
     requires { do ⌜ 2 * (k + used verb) ≤ (← ⟦points.len()⟧) ⌝ }
     ensures { λ r. ⌜ r ≡ segAt verb (now (points .entry)) k ⌝ }
 {

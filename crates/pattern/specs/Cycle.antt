@@ -8,7 +8,7 @@ use lib.Ieee.{Float, lt, le}
 use Rattle.float.specs.Arith.{plus, f0}
 use Rattle.float.specs.Small.{isFinite}
 
--- the pattern, laid twice where it is odd
+-- the working cycle: an odd pattern laid twice
 abbrev pub cycleOf : List Float → List Float
 cycleOf ps = cond (eqb (length ps % 2) 0) ps (ps ++ ps)
 

@@ -21,8 +21,8 @@ abbrev pub corners : List Vec2 → List Vec2
 corners [] = []
 corners (a ∷ ps) = cornersFrom a ps
 
--- A run is one move and one or more lines; all but the last line end on successive corners. `skipped` are corners that no line of the run but its last
--- can end on, and the runs that follow go on among `rest`: no corner serves twice.
+-- A run is one move and one or more lines; all but the last line end on successive corners. `skipped`: the corners before this run that were passed in a gap,
+-- or on which the last line of the run before it ended. What the last line of this run ends on stays in `rest`, among which the runs that follow go on.
 pub data Runs : List Vec2 → List Segment → Type 0 where
   none : (cs : List Vec2) → Runs cs []
   run : (skipped through rest : List Vec2) (a z : Vec2) (ss : List Segment) →
