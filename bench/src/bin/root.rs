@@ -2,12 +2,9 @@
 //! pointer in one run. Whole squares are timed apart, since nothing proved guards the first guess.
 //!
 //! `rt staticlib capi && cargo run --release --manifest-path bench/Cargo.toml --bin root [step]`
+use hizlaou::ffi::hz_sqrt;
 use std::hint::black_box;
 use std::time::Instant;
-
-extern "C" {
-    fn hz_sqrt(x: f32) -> f32;
-}
 
 #[inline(never)]
 extern "C" fn instruction(x: f32) -> f32 {

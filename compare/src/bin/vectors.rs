@@ -1,0 +1,284 @@
+//! Writes the list that the program `vectors` replays (crates/vectors/src/main.rt has its form): cases with every answer of the Rust source.
+//!
+//!     compare/vectors SOURCE > crates/vectors/stdin
+//!
+//! Cases are drawn as the comparison draws them, by a fixed seed. A case is kept if it shows something, in the list of `shows`, that fewer than
+//! two kept cases show: which way each call, each count, each closing, each reason for Whole and each verdict went. Small cases are drawn
+//! first; larger ones are kept only for what no small one shows.
+#[path = "../case.rs"]
+#[allow(dead_code)]
+mod case;
+
+use case::{Call, Case, Rng};
+use source::dash::{dash_path, Dash};
+use source::flatten::{self as curves, flatten};
+use source::path::{polygon_convexity, Convexity, FillRule, Path, PathBuilder, Rect, Verb};
+use source::Vec2;
+use std::collections::HashMap;
+use std::io::Write;
+
+fn v2(p: [f32; 2]) -> Vec2 {
+    Vec2::new(p[0], p[1])
+}
+
+fn apply(mut b: PathBuilder, call: &Call) -> PathBuilder {
+    match *call {
+        Call::Move(p) => drop(b.move_to(v2(p))),
+        Call::Line(p) => drop(b.line_to(v2(p))),
+        Call::Quad(c, p) => drop(b.quad_to(v2(c), v2(p))),
+        Call::Conic(c, p, w) => drop(b.conic_to(v2(c), v2(p), w)),
+        Call::Cubic(c, d, p) => drop(b.cubic_to(v2(c), v2(d), v2(p))),
+        Call::Close => drop(b.close()),
+        Call::Rule(0) => return b.with_fill_rule(FillRule::NonZero),
+        Call::Rule(_) => return b.with_fill_rule(FillRule::EvenOdd),
+        Call::Note(lo, hi, radius) => drop(b.as_rounded_rect(Rect::new(v2(lo), v2(hi)), radius)),
+    }
+    b
+}
+
+/// A call as seven words.
+fn call_words(c: &Call) -> [u32; 7] {
+    let f = |kind: u32, xs: &[f32]| {
+        let mut w = [0; 7];
+        w[0] = kind;
+        xs.iter().zip(&mut w[1..]).for_each(|(x, w)| *w = x.to_bits());
+        w
+    };
+    match *c {
+        Call::Move(p) => f(0, &p),
+        Call::Line(p) => f(1, &p),
+        Call::Quad(c, p) => f(2, &[c, p].concat()),
+        Call::Cubic(c, d, p) => f(3, &[c, d, p].concat()),
+        Call::Close => f(4, &[]),
+        Call::Conic(c, p, w) => f(5, &[c[0], c[1], p[0], p[1], w]),
+        Call::Rule(n) => [6, u32::from(n != 0), 0, 0, 0, 0, 0],
+        Call::Note(a, b, r) => f(7, &[a[0], a[1], b[0], b[1], r]),
+    }
+}
+
+#[derive(Default)]
+struct Words(Vec<u32>);
+
+impl Words {
+    fn n(&mut self, n: usize) {
+        self.0.push(n as u32);
+    }
+    fn f(&mut self, x: f32) {
+        self.0.push(x.to_bits());
+    }
+    fn p(&mut self, p: Vec2) {
+        self.f(p.x);
+        self.f(p.y);
+    }
+    fn points(&mut self, ps: &[Vec2]) {
+        self.n(2 * ps.len());
+        ps.iter().for_each(|p| self.p(*p));
+    }
+    fn verbs(&mut self, vs: &[Verb]) {
+        self.n(vs.len());
+        vs.iter().for_each(|v| self.n(*v as usize));
+    }
+}
+
+fn rule(p: &Path) -> usize {
+    usize::from(p.fill_rule() == FillRule::EvenOdd)
+}
+
+fn concave(c: Convexity) -> usize {
+    usize::from(c == Convexity::Concave)
+}
+
+/// What a number is like: 0 to 5 as they are, then by size.
+fn size(n: usize) -> usize {
+    match n {
+        0..=5 => n,
+        6..=15 => 6,
+        16..=99 => 7,
+        100..=998 => 8,
+        _ => n.min(1001),
+    }
+}
+
+fn like(x: f32) -> usize {
+    match x {
+        x if x.is_nan() => 0,
+        x if x.is_infinite() => 1,
+        x if x == 0.0 => 2,
+        x if x.is_subnormal() => 3,
+        _ => 4 + usize::from(x.abs() > 16_777_216.0),
+    }
+}
+
+/// The case with its answers, and what it shows. None where the program's buffers or the reference's time do not suffice.
+fn answered(c: &Case, most: usize) -> Option<(Vec<u32>, Vec<String>)> {
+    let mut shows = Vec::new();
+    let mut w = Words::default();
+    [c.tolerance, c.phase, c.scale].iter().for_each(|x| w.f(*x));
+    w.n(c.intervals.len());
+    c.intervals.iter().for_each(|x| w.f(*x));
+    w.n(c.calls.len());
+    c.calls.iter().for_each(|c| w.0.extend(call_words(c)));
+    let mut b = PathBuilder::new();
+    let mut last = 9;
+    for call in &c.calls {
+        let before = b.clone().build();
+        b = apply(b, call);
+        let laid = b.clone().build().verbs()[before.verbs().len()..].to_vec();
+        let kind = call_words(call)[0] as usize;
+        let quads = if kind == 5 { laid.iter().filter(|v| **v == Verb::QuadTo).count() } else { 0 };
+        w.n(quads);
+        w.n(0);
+        shows.push(format!("call {kind} behind {last} empty {}", before.verbs().is_empty()));
+        match *call {
+            Call::Conic(c, p, weight) => {
+                let finite = |p: [f32; 2]| p[0].is_finite() && p[1].is_finite();
+                shows.push(format!("conic {quads} weight {} {} {} {}", like(weight), weight > 0.0, finite(c), finite(p)));
+                shows.push(format!("conic near one {} {quads}", (weight - 1.0).abs() <= 1e-3));
+            }
+            Call::Note(lo, hi, r) => shows.push(format!("note {} {} {} {}", like(lo[0]), like(hi[1]), like(r), r.is_sign_negative())),
+            _ => (),
+        }
+        last = kind;
+    }
+    let (pen, path) = (b.current_point(), b.clone().build());
+    w.verbs(path.verbs());
+    w.points(path.points());
+    w.n(usize::from(pen.is_some()));
+    pen.iter().for_each(|p| w.p(*p));
+    w.n(rule(&path));
+    w.n(usize::from(path.as_rounded_rect().is_some()));
+    if let Some((r, radius)) = path.as_rounded_rect() {
+        w.p(r.min);
+        w.p(r.max);
+        w.f(radius);
+    }
+    let r = path.bounds();
+    w.n(0);
+    w.p(r.min);
+    w.p(r.max);
+    w.f(r.width());
+    w.f(r.height());
+    w.n(usize::from(r.is_empty()));
+    w.n(usize::from(path.is_finite()));
+    w.n(usize::from(path.is_within_tessellation_range()));
+    shows.push(format!("bounds {} finite {} range {}", r.is_empty(), path.is_finite(), path.is_within_tessellation_range()));
+    let (own, polygon) = (concave(path.convexity()), concave(polygon_convexity(path.points())));
+    w.n(own);
+    w.n(polygon);
+    let ps = path.points();
+    let repeats = ps.windows(2).filter(|w| w[0] == w[1]).count();
+    let curved = path.verbs().iter().any(|v| matches!(v, Verb::QuadTo | Verb::CubicTo));
+    shows.push(format!("convex {own} {polygon} of {} repeats {} curved {curved} finite {}", size(ps.len()), repeats.min(3), path.is_finite()));
+
+    // flatten
+    let flat = flatten(&path, c.tolerance);
+    let (mut pen, mut start, mut each) = (Vec2::ZERO, Vec2::ZERO, Vec::new());
+    for (verb, p) in path.segments() {
+        let mut n = 0;
+        match verb {
+            Verb::MoveTo => start = p[0],
+            Verb::LineTo => (),
+            Verb::QuadTo => n = curves::quad_segment_count(pen, p[0], p[1], c.tolerance) as usize,
+            Verb::CubicTo => n = curves::cubic_segment_count(pen, p[0], p[1], p[2], c.tolerance) as usize,
+            Verb::Close => shows.push(format!(
+                "close at start {} bits {} start {} {}",
+                pen == start,
+                (pen.x.to_bits(), pen.y.to_bits()) == (start.x.to_bits(), start.y.to_bits()),
+                like(start.x),
+                like(start.y)
+            )),
+        }
+        if n > 0 {
+            let wild = p.iter().any(|p| !p.is_finite()) || !pen.is_finite();
+            shows.push(format!("count {} of {} tolerance {} wild {wild}", size(n), p.len(), like(c.tolerance)));
+        }
+        each.push(n);
+        pen = *p.last().unwrap_or(&start);
+    }
+    let points: Vec<Vec2> = flat.iter().flatten().copied().collect();
+    let lines = path.verbs().iter().filter(|v| **v == Verb::LineTo).count();
+    let moves = path.verbs().iter().filter(|v| **v == Verb::MoveTo).count();
+    let counts: usize = each.iter().sum();
+    let closings = points.len() - flat.len() - lines - counts;
+    shows.push(format!("flat {} of {} moves, closings {}", size(flat.len()), size(moves), closings.min(3)));
+    w.n(0);
+    [flat.len(), lines, counts, closings].iter().for_each(|n| w.n(*n));
+    w.points(&points);
+    w.n(flat.len());
+    let mut end = 0;
+    for l in &flat {
+        end += l.len();
+        w.n(end);
+    }
+    each.iter().for_each(|n| w.n(*n));
+
+    // dash
+    let dash = Dash::new(c.intervals.clone(), c.phase);
+    w.n(usize::from(dash.is_usable()));
+    let sum: f32 = c.intervals.iter().sum();
+    let lengths: Vec<f32> = flat.iter().flat_map(|l| l.windows(2)).map(|w| (w[1] - w[0]).length()).collect();
+    let length: f32 = lengths.iter().filter(|l| l.is_finite()).sum();
+    if dash.is_usable() && 2.1 * sum > c.tolerance && !(length / sum * (c.intervals.len() as f32) < 2000.0) {
+        return None;
+    }
+    b.as_rounded_rect(Rect::new(Vec2::ZERO, Vec2::ZERO), 1.0);
+    let cut = dash_path(&b.build(), &dash, c.tolerance);
+    let whole = cut.as_rounded_rect().is_some();
+    let zeros = c.intervals.iter().filter(|x| **x == 0.0).count();
+    let bad = c.intervals.iter().map(|x| (like(*x) < 2) as usize + 2 * usize::from(*x < 0.0)).max().unwrap_or(9);
+    shows.push(format!(
+        "whole {whole} usable {} odd {} zeros {} bad {bad} phase {} {} sum {:?}",
+        dash.is_usable(),
+        c.intervals.len() % 2,
+        zeros.min(2),
+        like(c.phase).min(3),
+        c.phase < 0.0,
+        sum.partial_cmp(&c.tolerance)
+    ));
+    shows.push(format!("whole {whole} intervals {}", c.intervals.len().min(9)));
+    w.n(usize::from(!whole));
+    if !whole {
+        w.n(rule(&cut));
+        w.verbs(cut.verbs());
+        w.points(cut.points());
+        let kinds = |f: fn(&f32) -> bool| lengths.iter().filter(|l| f(l)).count().min(2);
+        shows.push(format!(
+            "cut {} of {} legs, zero {} wild {} zeros {} over {}",
+            size(cut.verbs().len()).min(8),
+            size(lengths.len()).min(7),
+            kinds(|l| *l == 0.0),
+            kinds(|l| !l.is_finite()),
+            zeros.min(2),
+            c.phase > sum
+        ));
+    }
+    let scaled = curves::tolerance_for_scale(c.tolerance, c.scale);
+    w.f(scaled);
+    shows.push(format!("scaled {} by {} {}", like(scaled), like(c.scale), c.scale < 0.0));
+    let fits = path.verbs().len() <= 500 && path.points().len() <= 1000 && points.len() <= 2000 && flat.len() <= 250 && cut.verbs().len() <= 2000;
+    (fits && w.0.len() <= most).then_some((w.0, shows))
+}
+
+fn main() {
+    assert!(source::keeps_first(), "the source must be built unoptimised");
+    let mut seen: HashMap<String, u32> = HashMap::new();
+    let mut out = std::io::BufWriter::new(std::io::stdout().lock());
+    let (mut kept, mut words) = (0, 0);
+    let rounds = [(0..60_000u64, 90, 2), (60_000..200_000, 160, 1), (200_000..260_000, 500, 1), (260_000..280_000, 4000, 1)];
+    for (number, most, enough) in rounds.into_iter().flat_map(|(numbers, most, enough)| numbers.map(move |n| (n, most, enough))) {
+        let c = case::random(&mut Rng::new(1, number), 24);
+        let Some((w, shows)) = answered(&c, most) else { continue };
+        if most > 200 && shows.iter().filter(|s| !seen.contains_key(*s)).count() < 2 {
+            continue;
+        }
+        if shows.iter().all(|s| seen.get(s).copied().unwrap_or(0) >= enough) {
+            continue;
+        }
+        shows.into_iter().for_each(|s| *seen.entry(s).or_default() += 1);
+        out.write_all(&(w.len() as u32).to_le_bytes()).unwrap();
+        w.iter().for_each(|x| out.write_all(&x.to_le_bytes()).unwrap());
+        kept += 1;
+        words += w.len();
+    }
+    eprintln!("{kept} cases, {} bytes, {} things shown", 4 * (kept + words), seen.len());
+}
