@@ -1,0 +1,82 @@
+//! Asks the library for what a command wants.
+use crate::options::{Command, Options};
+use crate::order::Order;
+use crate::outline::Outline;
+use crate::progress::Progress;
+use crate::walk::{self, Found};
+use hizlaou::{dash_path, flatten, line_style, tolerance_for_scale, Convexity, Dash, Dashed, Path, Polylines, Rect, Refusal};
+
+/// An answer of the library, with what the tool found out beside it.
+pub enum Answer {
+    Flattened(Polylines),
+    Whole { reason: String },
+    Cut { dashes: Path, polylines: Polylines, found: Found },
+    Shape(Convexity),
+    Box { rect: Rect, is_finite: bool, is_in_range: bool },
+}
+
+/// The order that the options describe. Refused with 9 for a style over 8.
+pub fn order_of(options: &Options) -> Result<Order, Refusal> {
+    let style = if options.pattern.is_some() { None } else { Some(options.style.unwrap_or(0)) };
+    let intervals = match (&options.pattern, style) {
+        (Some(pattern), _) => pattern.clone(),
+        (None, number) => line_style(number.unwrap_or(0))?,
+    };
+    Ok(Order {
+        style,
+        dash: Dash::new(intervals, options.phase),
+        tolerance: options.scale.map_or(options.tolerance, |scale| tolerance_for_scale(options.tolerance, scale)),
+        asked_tolerance: options.tolerance,
+        scale: options.scale,
+        rule: options.rule,
+    })
+}
+
+/// The answer to a command; a preview wants that of `dash`.
+pub fn answer(command: Command, outline: &Outline, order: &Order, progress: &Progress) -> Result<Answer, Refusal> {
+    let path = &outline.path;
+    match command {
+        Command::Flatten => {
+            progress.stage("flattening", 0);
+            flatten(path, order.tolerance).map(Answer::Flattened)
+        }
+        Command::Dash | Command::Preview => dashed(path, order, progress),
+        Command::Convexity => Ok(Answer::Shape(path.convexity())),
+        Command::Bounds => Ok(Answer::Box { rect: path.bounds(), is_finite: path.is_finite(), is_in_range: path.is_within_tessellation_range() }),
+    }
+}
+
+fn dashed(path: &Path, order: &Order, progress: &Progress) -> Result<Answer, Refusal> {
+    progress.stage("dashing", 0);
+    match dash_path(path, &order.dash, order.tolerance)? {
+        Dashed::Whole => {
+            let reason = order.reason_for_whole().unwrap_or_else(|| "the library gave no dashes".into());
+            Ok(Answer::Whole { reason })
+        }
+        Dashed::Cut { path: dashes, polylines } => {
+            progress.stage("looking for dashes that run on", polylines.totals().points);
+            let found = walk::find(&polylines, &order.dash, &order.cycle(), order.period(), &dashes, |n| progress.done(n));
+            Ok(Answer::Cut { dashes, polylines, found })
+        }
+    }
+}
+
+impl Answer {
+    /// How many points are to be written.
+    pub fn size(&self, path: &Path) -> usize {
+        match self {
+            Answer::Flattened(polylines) => polylines.totals().points,
+            Answer::Cut { dashes, .. } => dashes.points().len(),
+            _ => path.points().len(),
+        }
+    }
+
+    /// Whether the outline, or the rest of a polyline from some place on, goes to air without gaps. Where this could not be found out, it counts as so.
+    pub fn is_barrier(&self) -> bool {
+        match self {
+            Answer::Whole { .. } => true,
+            Answer::Cut { found, .. } => !found.agrees || found.run_ons.iter().any(|r| r.is_dash),
+            _ => false,
+        }
+    }
+}

@@ -1,0 +1,205 @@
+//! The preview: outline, runs, flattened points and corners, under loud warnings and over a legend.
+use crate::answer::Answer;
+use crate::canvas::{px, Extent, Fit};
+use crate::json::runs;
+use crate::legend;
+use crate::order::{rule_name, Order};
+use crate::outline::Outline;
+use crate::walk::RunOn;
+use crate::warnings::{warnings, Warning};
+use hizlaou::{flatten, Polylines, Refusal, Vec2};
+use std::fmt::Write;
+
+pub const WIDTH: f64 = 960.0;
+pub const MARGIN: f64 = 24.0;
+/// Room inside the panel, so that buoys at its edge stay whole.
+const PADDING: f64 = 30.0;
+/// The most flattened points and marks that are drawn: more would only blacken the picture.
+const MOST_DOTS: usize = 20_000;
+const MOST_MARKS: usize = 1_000;
+const MOST_BANNERS: usize = 3;
+
+/// All that a picture shows.
+pub struct Scene<'a> {
+    pub name: &'a str,
+    pub outline: &'a Outline,
+    pub order: &'a Order,
+    pub answer: &'a Answer,
+    pub polylines: &'a Polylines,
+    /// Every so-many-th flattened point is drawn.
+    pub dot_step: usize,
+}
+
+impl Scene<'_> {
+    /// The places where an interval never ends.
+    pub fn run_ons(&self) -> &[RunOn] {
+        match self.answer {
+            Answer::Cut { found, .. } if found.agrees => &found.run_ons,
+            _ => &[],
+        }
+    }
+}
+
+/// Draws an answer of `dash`. The points of an outline that is drawn whole are those of flattening it.
+pub fn draw(name: &str, outline: &Outline, order: &Order, answer: &Answer) -> Result<String, Refusal> {
+    let flat;
+    let polylines = match answer {
+        Answer::Cut { polylines, .. } => polylines,
+        _ => {
+            flat = flatten(&outline.path, order.tolerance)?;
+            &flat
+        }
+    };
+    let dot_step = polylines.points().len().div_ceil(MOST_DOTS).max(1);
+    Ok(sheet(&Scene { name, outline, order, answer, polylines, dot_step }))
+}
+
+/// The parts one below the other, and round them the document.
+fn sheet(scene: &Scene) -> String {
+    let mut body = title(scene.name);
+    let mut y = 56.0;
+    y += banners(&mut body, &warnings(scene.answer), y);
+    let extent = Extent::of(&scene.outline.path, scene.polylines);
+    let inside = (MARGIN + PADDING, y + PADDING);
+    let (fit, height) = Fit::new(extent, inside, WIDTH - 2.0 * (MARGIN + PADDING), 120.0, 600.0);
+    panel(&mut body, y, height + 2.0 * PADDING);
+    geometry(&mut body, scene, &fit);
+    y += height + 2.0 * PADDING + 16.0;
+    y += legend::write(&mut body, scene, &fit, y) + MARGIN;
+    format!(
+        "<svg xmlns=\"http://www.w3.org/2000/svg\" viewBox=\"0 0 {WIDTH} {h}\" width=\"{WIDTH}\" height=\"{h}\" role=\"img\"\n  \
+         font-family=\"Helvetica, Arial, 'DejaVu Sans', sans-serif\" font-size=\"15\" fill=\"#1b2733\">\n\
+         <title>{name}</title>\n<rect width=\"100%\" height=\"100%\" fill=\"#eef3f7\"/>\n{body}</svg>\n",
+        h = px(y),
+        name = xml(scene.name)
+    )
+}
+
+fn title(name: &str) -> String {
+    format!(
+        "<text x=\"{MARGIN}\" y=\"38\" font-size=\"22\" font-weight=\"bold\">{}</text>\n\
+         <text x=\"{}\" y=\"38\" text-anchor=\"end\" fill=\"#5a6875\">hizlaou preview</text>\n",
+        xml(&legend::short(name, 60)),
+        WIDTH - MARGIN
+    )
+}
+
+/// One bar for each warning, red where nothing breaks the line. Answers the height.
+fn banners(body: &mut String, list: &[Warning], top: f64) -> f64 {
+    let mut height = 0.0;
+    for warning in list.iter().take(MOST_BANNERS) {
+        banner(body, warning, top + height);
+        height += 70.0;
+    }
+    if list.len() > MOST_BANNERS {
+        let more = format!("and {} more warnings, on standard error", list.len() - MOST_BANNERS);
+        let _ = writeln!(body, "<text x=\"{MARGIN}\" y=\"{}\" font-weight=\"bold\" fill=\"#c8102e\">{more}</text>", top + height + 12.0);
+        height += 28.0;
+    }
+    height
+}
+
+fn banner(body: &mut String, warning: &Warning, y: f64) {
+    let color = if warning.is_barrier { "#c8102e" } else { "#8a5a00" };
+    let wide = WIDTH - 2.0 * MARGIN;
+    let _ = writeln!(body, "<g class=\"warning\" fill=\"#fff\">");
+    let _ = writeln!(body, "<rect x=\"{MARGIN}\" y=\"{y}\" width=\"{wide}\" height=\"60\" rx=\"6\" fill=\"{color}\"/>");
+    let (x, first, second) = (MARGIN + 16.0, y + 26.0, y + 48.0);
+    let _ = writeln!(body, "<text x=\"{x}\" y=\"{first}\" font-size=\"20\" font-weight=\"bold\">{}</text>", xml(&warning.headline));
+    let _ = writeln!(body, "<text x=\"{x}\" y=\"{second}\">{}</text>\n</g>", xml(&legend::short(&warning.reason, 112)));
+}
+
+fn panel(body: &mut String, y: f64, height: f64) {
+    let wide = WIDTH - 2.0 * MARGIN;
+    let (y, height) = (px(y), px(height));
+    let _ = writeln!(body, "<rect x=\"{MARGIN}\" y=\"{y}\" width=\"{wide}\" height=\"{height}\" rx=\"6\" fill=\"#fff\" stroke=\"#c3ced8\"/>");
+}
+
+/// The drawing itself, from the ground up: fill, outline, runs, what runs on, points, corners, marks.
+fn geometry(body: &mut String, scene: &Scene, fit: &Fit) {
+    let path = &scene.outline.path;
+    let filled = fit.outline(path, true);
+    if !filled.is_empty() {
+        let rule = rule_name(scene.order.rule);
+        let _ = writeln!(body, "<path class=\"fill\" d=\"{filled}\" fill=\"#dcebf7\" fill-rule=\"{rule}\"/>");
+    }
+    let line = fit.outline(path, false);
+    match scene.answer {
+        Answer::Cut { dashes, .. } => {
+            stroke(body, "outline", &line, "#8a97a5", "1.2");
+            stroke(body, "runs", &fit.lines(runs(dashes)), "#0b5cad", "5");
+        }
+        _ => stroke(body, "whole", &line, "#c8102e", "5"),
+    }
+    running_on(body, scene, fit);
+    let points = scene.polylines.points().iter().step_by(scene.dot_step).copied();
+    dots(body, "points", &fit.dots(points), "#1b2733", "3");
+    let corners = fit.dots(scene.outline.corners.iter().copied());
+    dots(body, "corners", &corners, "#1b2733", "13");
+    dots(body, "corners", &corners, "#f28c28", "10");
+    marks(body, scene, fit);
+}
+
+fn stroke(body: &mut String, class: &str, data: &str, color: &str, width: &str) {
+    if !data.is_empty() {
+        let _ = writeln!(body, "<path class=\"{class}\" d=\"{data}\" fill=\"none\" stroke=\"{color}\" stroke-width=\"{width}\"/>");
+    }
+}
+
+fn dots(body: &mut String, class: &str, data: &str, color: &str, width: &str) {
+    if !data.is_empty() {
+        let cap = "fill=\"none\" stroke-linecap=\"round\"";
+        let _ = writeln!(body, "<path class=\"{class}\" d=\"{data}\" {cap} stroke=\"{color}\" stroke-width=\"{width}\"/>");
+    }
+}
+
+/// The rest of a polyline that is one dash in red, one that is a gap as fine dots.
+fn running_on(body: &mut String, scene: &Scene, fit: &Fit) {
+    for run_on in scene.run_ons() {
+        let ahead = scene.polylines.get(run_on.polyline).and_then(|points| points.get(run_on.next..)).unwrap_or_default();
+        let rest: Vec<Vec2> = std::iter::once(run_on.at).chain(ahead.iter().copied()).collect();
+        let data = fit.lines(std::iter::once(&rest[..]));
+        if run_on.is_dash {
+            stroke(body, "runs-on", &data, "#c8102e", "5");
+        } else {
+            let _ =
+                writeln!(body, "<path class=\"gap-on\" d=\"{data}\" fill=\"none\" stroke=\"#8a5a00\" stroke-width=\"3\" stroke-dasharray=\"1 7\"/>");
+        }
+    }
+}
+
+/// A ring where an interval stops ending.
+fn marks(body: &mut String, scene: &Scene, fit: &Fit) {
+    for run_on in scene.run_ons().iter().take(MOST_MARKS) {
+        let Some((x, y)) = fit.place(run_on.at) else { continue };
+        let color = if run_on.is_dash { "#c8102e" } else { "#8a5a00" };
+        let _ =
+            writeln!(body, "<circle class=\"mark\" cx=\"{}\" cy=\"{}\" r=\"12\" fill=\"none\" stroke=\"{color}\" stroke-width=\"3\"/>", px(x), px(y));
+    }
+}
+
+/// A text inside XML; characters that XML can't hold become blanks.
+pub fn xml(text: &str) -> String {
+    let mut escaped = String::new();
+    for c in text.chars() {
+        match c {
+            '&' => escaped.push_str("&amp;"),
+            '<' => escaped.push_str("&lt;"),
+            '>' => escaped.push_str("&gt;"),
+            '"' => escaped.push_str("&quot;"),
+            c if c.is_control() || matches!(c, '\u{FFFE}' | '\u{FFFF}') => escaped.push(' '),
+            c => escaped.push(c),
+        }
+    }
+    escaped
+}
+
+#[cfg(test)]
+mod tests {
+    use super::*;
+
+    #[test]
+    fn any_name_can_stand_in_xml() {
+        assert_eq!(xml("a<b>&\"c\"\u{1}\u{FFFF}"), "a&lt;b&gt;&amp;&quot;c&quot;  ");
+    }
+}
