@@ -106,7 +106,7 @@ fn banner(body: &mut String, warning: &Warning, y: f64) {
     let _ = writeln!(body, "<rect x=\"{MARGIN}\" y=\"{y}\" width=\"{wide}\" height=\"60\" rx=\"6\" fill=\"{color}\"/>");
     let (x, first, second) = (MARGIN + 16.0, y + 26.0, y + 48.0);
     let _ = writeln!(body, "<text x=\"{x}\" y=\"{first}\" font-size=\"20\" font-weight=\"bold\">{}</text>", xml(&warning.headline));
-    let _ = writeln!(body, "<text x=\"{x}\" y=\"{second}\">{}</text>\n</g>", xml(&legend::short(&warning.reason, 112)));
+    let _ = writeln!(body, "<text x=\"{x}\" y=\"{second}\">{}</text>\n</g>", xml(&legend::short(&warning.reason, 118)));
 }
 
 fn panel(body: &mut String, y: f64, height: f64) {
