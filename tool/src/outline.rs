@@ -3,6 +3,7 @@
 //! All arithmetic on coordinates is in f32, rounded once: a relative coordinate is added to the pen, and the reflected control point of T and S is
 //! twice the pen minus the last control point.
 use crate::lexer::{Fault, Lexer};
+use crate::number::count;
 use hizlaou::{FillRule, Path, PathBuilder, Refusal, Vec2};
 
 /// An outline as it was ordered.
@@ -112,16 +113,8 @@ fn read_arguments(lexer: &mut Lexer, plotter: &mut Plotter, mut command: Command
 /// A fault in a command's numbers, with which of them it is.
 fn lacking(fault: Fault, command: Command, index: usize) -> Fault {
     let letter = char::from(if command.relative { command.kind.to_ascii_lowercase() } else { command.kind });
-    let message = format!("{}; {letter} takes {} and this is number {}", fault.message, count_of(command.numbers), index + 1);
+    let message = format!("{}; {letter} takes {} and this is number {}", fault.message, count(command.numbers, "number"), index + 1);
     Fault { message, ..fault }
-}
-
-fn count_of(numbers: usize) -> String {
-    if numbers == 1 {
-        "1 number".into()
-    } else {
-        format!("{numbers} numbers")
-    }
 }
 
 /// The control point that T or S reflects: the last one, if the command before was of the same kind.
@@ -153,23 +146,20 @@ impl Plotter {
 
     /// Draws one command. A refused one changes nothing.
     fn draw(&mut self, command: Command, v: [f32; 6]) -> Result<(), Refusal> {
-        let origin = if command.relative { self.pen } else { Vec2::ZERO };
-        let point = |i: usize| match v {
-            [x, y, ..] if i == 0 => along(command, origin, x, y),
-            [_, _, x, y, ..] if i == 1 => along(command, origin, x, y),
-            [.., x, y] => along(command, origin, x, y),
-        };
-        let shift = |value: f32, by: f32| if command.relative { by + value } else { value };
+        let pen = self.pen;
+        let x = |value: f32| if command.relative { pen.x + value } else { value };
+        let y = |value: f32| if command.relative { pen.y + value } else { value };
+        let [first, second, third] = [(v[0], v[1]), (v[2], v[3]), (v[4], v[5])].map(|p| Vec2::new(x(p.0), y(p.1)));
         match command.kind {
-            b'M' => self.move_to(point(0)),
-            b'L' => self.line_to(point(0)),
-            b'H' => self.line_to(Vec2::new(shift(v[0], origin.x), self.pen.y)),
-            b'V' => self.line_to(Vec2::new(self.pen.x, shift(v[0], origin.y))),
-            b'Q' => self.quad_to(point(0), point(1)),
-            b'T' => self.quad_to(self.reflected_quad(), point(0)),
-            b'C' => self.cubic_to(point(0), point(1), point(2)),
-            b'S' => self.cubic_to(self.reflected_cubic(), point(0), point(1)),
-            b'K' => self.conic_to(point(0), point(1), v[4]),
+            b'M' => self.move_to(first),
+            b'L' => self.line_to(first),
+            b'H' => self.line_to(Vec2::new(x(v[0]), pen.y)),
+            b'V' => self.line_to(Vec2::new(pen.x, y(v[0]))),
+            b'Q' => self.quad_to(first, second),
+            b'T' => self.quad_to(self.reflected_quad(), first),
+            b'C' => self.cubic_to(first, second, third),
+            b'S' => self.cubic_to(self.reflected_cubic(), first, second),
+            b'K' => self.conic_to(first, second, v[4]),
             _ => self.close(),
         }
     }
@@ -240,15 +230,6 @@ impl Plotter {
 
     fn reflected(&self, control: Vec2) -> Vec2 {
         Vec2::new(2.0 * self.pen.x - control.x, 2.0 * self.pen.y - control.y)
-    }
-}
-
-/// The point of two numbers: as they are, or added to the pen.
-fn along(command: Command, origin: Vec2, x: f32, y: f32) -> Vec2 {
-    if command.relative {
-        Vec2::new(origin.x + x, origin.y + y)
-    } else {
-        Vec2::new(x, y)
     }
 }
 
