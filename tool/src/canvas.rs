@@ -79,7 +79,7 @@ pub struct Fit {
 impl Fit {
     /// Fits a box into a width, and into a height from `least` to `most`; says the height that is taken.
     pub fn new(extent: Option<Extent>, (left, top): (f64, f64), width: f64, least: f64, most: f64) -> (Fit, f64) {
-        let e = extent.unwrap_or(Extent { min: (0.0, 0.0), max: (1.0, 1.0) });
+        let e = extent.unwrap_or(Extent { min: (0.0, 0.0), max: (1.0, 0.0) });
         let (w, h) = (e.max.0 - e.min.0, e.max.1 - e.min.1);
         let size = if w.max(h) > 0.0 { (w, h) } else { (1.0, 1.0) };
         let scale = (width / size.0).min(most / size.1);
@@ -145,6 +145,12 @@ impl Fit {
         data
     }
 
+    /// How many pixels lie between neighbouring points of the polylines, on the average.
+    pub fn spacing(&self, polylines: &Polylines) -> f64 {
+        let length: f64 = polylines.iter().map(length).sum();
+        length * self.scale / polylines.points().len().max(1) as f64
+    }
+
     /// Points as path data of dots: lines too short to see, for round caps.
     pub fn dots(&self, points: impl Iterator<Item = Vec2>) -> String {
         let mut data = String::new();
@@ -153,6 +159,21 @@ impl Fit {
             data.push_str("h.01");
         }
         data
+    }
+}
+
+/// The length of a polyline; what isn't finite counts 0.
+pub fn length(points: &[Vec2]) -> f64 {
+    points.iter().zip(points.iter().skip(1)).map(|(&a, &b)| distance(a, b)).sum()
+}
+
+fn distance(a: Vec2, b: Vec2) -> f64 {
+    let (x, y) = (f64::from(b.x) - f64::from(a.x), f64::from(b.y) - f64::from(a.y));
+    let distance = (x * x + y * y).sqrt();
+    if distance.is_finite() {
+        distance
+    } else {
+        0.0
     }
 }
 
@@ -200,6 +221,7 @@ mod tests {
         assert_eq!(fit.outline(&path, false), "M10 20Q90 100 170 20ZM40 50L50 50");
         assert_eq!(fit.outline(&path, true), "M10 20Q90 100 170 20Z");
         assert_eq!(fit.lines(polylines.iter()), "M10 20L170 20L10 20M20 30M40 50L50 50");
+        assert_eq!(fit.spacing(&polylines), (16.0 + 16.0 + 1.0) * 10.0 / 7.0);
         assert_eq!(fit.dots([Vec2::ZERO, Vec2::new(f32::INFINITY, 0.0)].into_iter()), "M10 20h.01");
     }
 

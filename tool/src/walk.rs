@@ -4,6 +4,7 @@
 //! pattern starts with an interval of 0, or when an interval is too short to move the position. From there on the rest of the polyline is one run or
 //! one gap. The library's answer holds no mark of it, so the walk is made again here, over the library's polylines, with the same operations in the
 //! same order. What is found counts only if this walk lays the library's answer, verb by verb and float by float; that is compared as it goes.
+use crate::canvas::length;
 use hizlaou::{Dash, Path, Polylines, Vec2, Verb};
 
 /// Where the walk of a polyline stands when its interval stops ending.
@@ -101,20 +102,8 @@ impl Stall {
             _ => Place::Corner,
         };
         let ahead = points.get(self.next..).unwrap_or_default();
-        let first = ahead.first().map_or(0.0, |&p| distance(self.at, p));
-        let length = first + ahead.iter().zip(ahead.iter().skip(1)).map(|(&a, &b)| distance(a, b)).sum::<f64>();
-        RunOn { polyline, place, at: self.at, next: self.next, is_dash, length }
-    }
-}
-
-/// The distance of two points, 0 where it is not finite.
-fn distance(a: Vec2, b: Vec2) -> f64 {
-    let (x, y) = (f64::from(b.x) - f64::from(a.x), f64::from(b.y) - f64::from(a.y));
-    let length = (x * x + y * y).sqrt();
-    if length.is_finite() {
-        length
-    } else {
-        0.0
+        let first = ahead.first().map_or(0.0, |&p| length(&[self.at, p]));
+        RunOn { polyline, place, at: self.at, next: self.next, is_dash, length: first + length(ahead) }
     }
 }
 
