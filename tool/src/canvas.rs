@@ -145,10 +145,12 @@ impl Fit {
         data
     }
 
-    /// How many pixels lie between neighbouring points of the polylines, on the average.
-    pub fn spacing(&self, polylines: &Polylines) -> f64 {
-        let length: f64 = polylines.iter().map(length).sum();
-        length * self.scale / polylines.points().len().max(1) as f64
+    /// How many pixels lie between a point and the next: the middle one of these distances, of each so-many-th pair.
+    pub fn spacing(&self, points: &[Vec2], step: usize) -> f64 {
+        let mut ways: Vec<f64> = points.windows(2).step_by(step.max(1)).map(|pair| length(pair) * self.scale).collect();
+        let middle = ways.len() / 2;
+        ways.sort_by(f64::total_cmp);
+        ways.get(middle).copied().unwrap_or_default()
     }
 
     /// Points as path data of dots: lines too short to see, for round caps.
@@ -221,7 +223,8 @@ mod tests {
         assert_eq!(fit.outline(&path, false), "M10 20Q90 100 170 20ZM40 50L50 50");
         assert_eq!(fit.outline(&path, true), "M10 20Q90 100 170 20Z");
         assert_eq!(fit.lines(polylines.iter()), "M10 20L170 20L10 20M20 30M40 50L50 50");
-        assert_eq!(fit.spacing(&polylines), (16.0 + 16.0 + 1.0) * 10.0 / 7.0);
+        assert_eq!(fit.spacing(&[Vec2::ZERO, Vec2::new(0.0, 1.0), Vec2::new(0.0, 3.0), Vec2::new(0.0, 9.0)], 1), 20.0);
+        assert_eq!(fit.spacing(&[], 0), 0.0);
         assert_eq!(fit.dots([Vec2::ZERO, Vec2::new(f32::INFINITY, 0.0)].into_iter()), "M10 20h.01");
     }
 

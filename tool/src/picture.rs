@@ -134,7 +134,7 @@ fn geometry(body: &mut String, scene: &Scene, fit: &Fit) {
     running_on(body, scene, fit);
     let points = scene.polylines.points().iter().step_by(scene.dot_step).copied();
     // Dense points are drawn small, so that the gaps between runs stay gaps.
-    let size = px((fit.spacing(scene.polylines) / 2.0).clamp(1.0, 3.0)).to_string();
+    let size = px((fit.spacing(scene.polylines.points(), scene.dot_step) / 2.0).clamp(1.0, 3.0)).to_string();
     dots(body, "points", &fit.dots(points), "#1b2733", &size);
     let corners = fit.dots(scene.outline.corners.iter().copied());
     dots(body, "corners", &corners, "#1b2733", "13");
