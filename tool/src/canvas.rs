@@ -114,30 +114,29 @@ impl Fit {
         data
     }
 
-    /// An outline as path data, with its curves. `only_closed` leaves out subpaths without a close.
+    /// An outline as path data, with its curves; a close is a line to the start, since what is left out may have begun the piece elsewhere.
+    /// `only_closed` leaves out subpaths without a close.
     pub fn outline(&self, path: &Path, only_closed: bool) -> String {
         let (mut data, mut subpath) = (String::new(), String::new());
         let (mut pen, mut is_lifted, mut is_closed) = (Pen::default(), true, false);
         for (verb, points) in path.segments() {
             if verb == Verb::MoveTo {
                 keep(&mut data, &mut subpath, is_closed || !only_closed);
-                is_closed = false;
             }
-            let from = self.place(pen.at);
-            is_lifted = match (verb, from, self.places(points)) {
-                (Verb::LineTo | Verb::QuadTo | Verb::CubicTo, Some(from), Some(to)) => {
+            is_closed = verb == Verb::Close || (is_closed && verb != Verb::MoveTo);
+            let (letter, to) = match verb {
+                Verb::Close => ("L", self.place(pen.start).map(|start| vec![start])),
+                _ => (crate::text::letter(verb), self.places(points)),
+            };
+            is_lifted = match (verb, self.place(pen.at), to) {
+                (Verb::MoveTo, ..) | (_, None, _) | (_, _, None) => true,
+                (_, Some(from), Some(to)) => {
                     if is_lifted {
                         push(&mut subpath, "M", &[from]);
                     }
-                    push(&mut subpath, crate::text::letter(verb), &to);
+                    push(&mut subpath, letter, &to);
                     false
                 }
-                (Verb::Close, ..) => {
-                    subpath.push_str(if is_lifted { "" } else { "Z" });
-                    is_closed = true;
-                    true
-                }
-                _ => true,
             };
             pen.follow(verb, points);
         }
@@ -220,8 +219,8 @@ mod tests {
         assert_eq!(extent, Some(Extent { min: (0.0, 0.0), max: (16.0, 4.0) }));
         let (fit, height) = Fit::new(extent, (10.0, 20.0), 160.0, 10.0, 1000.0);
         assert_eq!((fit.scale, height), (10.0, 40.0));
-        assert_eq!(fit.outline(&path, false), "M10 20Q90 100 170 20ZM40 50L50 50");
-        assert_eq!(fit.outline(&path, true), "M10 20Q90 100 170 20Z");
+        assert_eq!(fit.outline(&path, false), "M10 20Q90 100 170 20L10 20M40 50L50 50");
+        assert_eq!(fit.outline(&path, true), "M10 20Q90 100 170 20L10 20");
         assert_eq!(fit.lines(polylines.iter()), "M10 20L170 20L10 20M20 30M40 50L50 50");
         assert_eq!(fit.spacing(&[Vec2::ZERO, Vec2::new(0.0, 1.0), Vec2::new(0.0, 3.0), Vec2::new(0.0, 9.0)], 1), 20.0);
         assert_eq!(fit.spacing(&[], 0), 0.0);

@@ -99,11 +99,11 @@ fn notes(scene: &Scene, fit: &Fit) -> Vec<String> {
         notes.push(format!("Not shown: {} with a coordinate that is not finite.", count(lost, "flattened point")));
     }
     if scene.dot_step > 1 {
-        notes.push(format!("Of the flattened points only each {}th is shown.", scene.dot_step));
+        notes.push(format!("Of every {} flattened points one is shown.", scene.dot_step));
     }
     let period = f64::from(scene.order.period()) * fit.scale;
-    if matches!(scene.answer, Answer::Cut { .. }) && period < FINE {
-        notes.push(format!("A period is {:.2} pixels here: zoom in to see the gaps.", period));
+    if matches!(scene.answer, Answer::Cut { .. }) && period < FINE && !scene.polylines.is_empty() {
+        notes.push(format!("A period is {period:.2} pixels here: zoom in to see the gaps."));
     }
     if scene.polylines.is_empty() {
         notes.push("Nothing is drawn: the outline has no line and no curve.".into());

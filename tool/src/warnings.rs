@@ -55,3 +55,37 @@ fn where_and_why(run_on: &RunOn) -> String {
     };
     format!("polyline {}, {place} {at} on, {} long: {why}", run_on.polyline + 1, Exact(run_on.length as f32))
 }
+
+#[cfg(test)]
+mod tests {
+    use super::*;
+    use crate::walk::Found;
+    use hizlaou::{flatten, PathBuilder, Polylines, Vec2};
+
+    fn cut(found: Found) -> Answer {
+        Answer::Cut { dashes: PathBuilder::new().build(), polylines: Polylines::default(), found }
+    }
+
+    #[test]
+    fn dashes_come_before_gaps_and_many_are_counted() {
+        let place = |is_dash| RunOn { polyline: 0, place: Place::Inside, at: Vec2::ZERO, next: 1, is_dash, length: 2.5 };
+        let list = warnings(&cut(Found { run_ons: (0..24).map(|i| place(i % 2 == 1)).collect(), agrees: true }));
+        assert_eq!((list.len(), list.iter().filter(|w| w.is_barrier).count()), (22, 11));
+        assert_eq!(list[0].reason, "polyline 1, from (0 0) on, 2.5 long: the interval is too short to move on and never ends");
+        assert_eq!(list[10].reason, "and 2 more places");
+        assert!(list[11].headline.starts_with("A GAP RUNS ON"));
+    }
+
+    #[test]
+    fn a_walk_that_does_not_lay_the_answer_is_loud() {
+        let mut b = PathBuilder::new();
+        b.move_to(Vec2::ZERO).unwrap().line_to(Vec2::new(8.0, 0.0)).unwrap();
+        let polylines = flatten(&b.build(), 0.25).unwrap();
+        let dash = hizlaou::Dash::new(vec![2.0, 1.0], 0.0);
+        let found = crate::walk::find(&polylines, &dash, &[2.0, 1.0], 3.0, &PathBuilder::new().build(), |_| ());
+        assert!(!found.agrees);
+        let answer = cut(found);
+        assert!(answer.is_barrier());
+        assert!(warnings(&answer)[0].headline.starts_with("NOT CHECKED"));
+    }
+}
