@@ -93,6 +93,13 @@ typedef struct {
     uint8_t refused;          /* 1, 7 or 2, in this order */
 } HzReply;
 
+/* What a played list of calls left. */
+typedef struct {
+    HzBuilder state;
+    size_t calls;             /* the calls that were played: fewer than the kinds where the list ends early */
+    size_t refused;           /* how many of them were refused */
+} HzReplayed;
+
 /* The pen, if anything is laid (known is 1); else zeros. */
 typedef struct {
     float x, y;
@@ -204,6 +211,13 @@ HzReply hz_quad_to(HzBuilder state, uint8_t *verbs, size_t verbs_len, float *poi
 HzReply hz_conic_to(HzBuilder state, uint8_t *verbs, size_t verbs_len, float *points, size_t points_len, HzVec2 ctrl, HzVec2 to, float weight);
 HzReply hz_cubic_to(HzBuilder state, uint8_t *verbs, size_t verbs_len, float *points, size_t points_len, HzVec2 c0, HzVec2 c1, HzVec2 to);
 HzReply hz_close(HzBuilder state, uint8_t *verbs, size_t verbs_len, float *points, size_t points_len);
+
+/* Plays a whole encoded list of calls on a fresh builder: one crossing for all of them. A byte for each call's kind, and the calls' numbers end to
+ * end: 0 move (2 numbers), 1 line (2), 2 quad (4), 3 cubic (6), 4 close (0), 5 conic (control, end, weight: 5), 6 and 7 the fill rules non-zero and
+ * even-odd (0), 8 the note of a rounded rectangle (min, max, radius: 5). The list ends at its last byte, at a byte over 8, or where fewer numbers are
+ * left than the call takes. A refused call counts as not made, and the next goes on from the unchanged state. */
+HzReplayed hz_replay(const uint8_t *kinds, size_t kinds_len, const float *numbers, size_t numbers_len, uint8_t *verbs, size_t verbs_len,
+                     float *points, size_t points_len);
 
 /* ---- flattening */
 

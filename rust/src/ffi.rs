@@ -30,6 +30,15 @@ pub struct Reply {
     pub refused: u8,
 }
 
+/// What a played list of calls left: the state, the calls played, and how many of them were refused.
+#[repr(C)]
+#[derive(Clone, Copy, Debug)]
+pub struct Replayed {
+    pub state: Builder,
+    pub calls: usize,
+    pub refused: usize,
+}
+
 #[repr(C)]
 #[derive(Clone, Copy, Debug)]
 pub struct CurrentPoint {
@@ -136,6 +145,16 @@ extern "C" {
     pub fn hz_conic_to(state: Builder, verbs: *mut u8, verbs_len: usize, points: *mut f32, points_len: usize, ctrl: Vec2, to: Vec2, weight: f32) -> Reply;
     pub fn hz_cubic_to(state: Builder, verbs: *mut u8, verbs_len: usize, points: *mut f32, points_len: usize, c0: Vec2, c1: Vec2, to: Vec2) -> Reply;
     pub fn hz_close(state: Builder, verbs: *mut u8, verbs_len: usize, points: *mut f32, points_len: usize) -> Reply;
+    pub fn hz_replay(
+        kinds: *const u8,
+        kinds_len: usize,
+        numbers: *const f32,
+        numbers_len: usize,
+        verbs: *mut u8,
+        verbs_len: usize,
+        points: *mut f32,
+        points_len: usize,
+    ) -> Replayed;
 
     pub fn hz_check(verbs: *const u8, verbs_len: usize, points: *const f32, points_len: usize) -> u8;
     pub fn hz_flatten(

@@ -325,6 +325,17 @@ pub struct PathBuilder {
     quads: usize,
 }
 
+/// What [`PathBuilder::replay`] left.
+#[derive(Clone, Debug)]
+pub struct Replayed {
+    /// The builder after the last call.
+    pub builder: PathBuilder,
+    /// The calls that were played: fewer than the kinds where the list ended early.
+    pub calls: usize,
+    /// How many of them were refused.
+    pub refused: usize,
+}
+
 impl Default for PathBuilder {
     fn default() -> PathBuilder {
         PathBuilder::new()
@@ -351,6 +362,30 @@ impl PathBuilder {
     pub fn new() -> PathBuilder {
         // SAFETY: values only.
         PathBuilder { state: unsafe { ffi::hz_new() }, verbs: Vec::new(), points: Vec::new(), quads: 0 }
+    }
+
+    /// Plays an encoded list of calls on a fresh builder, in one call of the library: a byte for each call's kind, and the calls' numbers end to end.
+    /// 0 move (2 numbers), 1 line (2), 2 quad (4), 3 cubic (6), 4 close (0), 5 conic (control, end, weight: 5), 6 and 7 the fill rules non-zero and
+    /// even-odd (0), 8 the note of a rounded rectangle (min, max, radius: 5). The list ends at its last byte, at a byte over 8, or where fewer numbers
+    /// are left than the call takes.
+    ///
+    /// ```
+    /// use hizlaou::{PathBuilder, Vec2};
+    /// let played = PathBuilder::replay(&[0, 1, 4], &[0.0, 0.0, 8.0, 0.0]);
+    /// assert_eq!((played.calls, played.refused), (3, 0));
+    /// assert_eq!(played.builder.build().points(), [Vec2::ZERO, Vec2::new(8.0, 0.0)]);
+    /// ```
+    pub fn replay(kinds: &[u8], numbers: &[f32]) -> Replayed {
+        // A call lays 65 verbs and 129 points at most.
+        let mut verbs = vec![0; MAX_VERBS.min(65 * kinds.len())];
+        let mut points = vec![Vec2::ZERO; MAX_POINTS.min(129 * kinds.len())];
+        let (p, n) = floats_mut(&mut points);
+        let (v, m) = (verbs.as_mut_ptr(), verbs.len());
+        // SAFETY: kinds and numbers are only read; both buffers are lent for the call with their own lengths.
+        let r = unsafe { ffi::hz_replay(kinds.as_ptr(), kinds.len(), numbers.as_ptr(), numbers.len(), v, m, p, n) };
+        verbs.truncate(r.state.verbs);
+        points.truncate(r.state.points);
+        Replayed { builder: PathBuilder { state: r.state, verbs, points, quads: 0 }, calls: r.calls, refused: r.refused }
     }
 
     /// The same builder with another fill rule.

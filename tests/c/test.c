@@ -297,10 +297,33 @@ static void dashing(void) {
     CHECK(hz_line_style(9).refused == HZ_NO_STYLE && hz_line_style(SIZE_MAX).refused == HZ_NO_STYLE);
 }
 
+/* A played list leaves what its calls leave one by one; a refused call counts as not made; the list ends early at a byte that is no kind. */
+static void replayed(void) {
+    Built b, c;
+    fresh(&b);
+    fresh(&c);
+    const uint8_t kinds[] = {7, 0, 1, 5, 4, 9, 1};
+    const float numbers[] = {1, 2, 3, 4, 5, 6, 7, 8, 0.5f, 9, 9};
+    HzReplayed r = hz_replay(kinds, 7, numbers, 11, b.verbs, VERBS, b.points, FLOATS);
+    HzReply q = hz_move_to(hz_with_fill_rule(hz_new(), HZ_EVEN_ODD), c.verbs, VERBS, c.points, FLOATS, at(1, 2));
+    q = hz_line_to(q.state, c.verbs, VERBS, c.points, FLOATS, at(3, 4));
+    q = hz_conic_to(q.state, c.verbs, VERBS, c.points, FLOATS, at(5, 6), at(7, 8), 0.5f);
+    q = hz_close(q.state, c.verbs, VERBS, c.points, FLOATS);
+    CHECK(r.calls == 5 && r.refused == 0);
+    CHECK(same_state(&r.state, &q.state));
+    CHECK(memcmp(b.verbs, c.verbs, sizeof b.verbs) == 0 && memcmp(b.points, c.points, sizeof b.points) == 0);
+    fresh(&b);
+    r = hz_replay(kinds, 3, numbers, 4, b.verbs, 1, b.points, FLOATS);
+    CHECK(r.calls == 3 && r.refused == 1 && r.state.verbs == 1 && r.state.pen_x == 1.0f);
+    r = hz_replay(NULL, 0, NULL, 0, NULL, 0, NULL, 0);
+    CHECK(r.calls == 0 && r.refused == 0 && r.state.started == 0);
+}
+
 int main(void) {
     values();
     building();
     builder_refusals();
+    replayed();
     flattening();
     questions();
     dashing();
