@@ -17,7 +17,7 @@ use borrow.Author.Tests.{lt-ltb}
 use Rattle.float.specs.Root.{squareRoot}
 use Rattle.float.specs.Pattern.{magnitude}
 use Rattle.float.specs.Arith.{times, f0}
-use Rattle.float.specs.Count as count
+use Rattle.float.proofs.Signs as count
 use Rattle.float.proofs.Patterns.{value-of}
 use Rattle.float.proofs.Squares.{le-of-square-le}
 use Rattle.float.proofs.Held.{magnitude-lt}
