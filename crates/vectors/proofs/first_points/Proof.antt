@@ -1,0 +1,26 @@
+use mathlib.Core.Path.{sym}
+use native.Mathlib.Omega.{arith}
+use lib.Seq.{length-take-le}
+use borrow.Author.Needs.{needs}
+use Rattle.vectors.proofs.first_points.Statement.{statement}
+use Rattle.vectors.proofs.first_points.Tie as tie
+
+mul-result : tie.Need-mul-result
+mul-result c = search needs
+
+slice-aggregate-result : tie.Need-slice-aggregate-result
+slice-aggregate-result c = sym (length-take-le _ _ (omega (arith, c .before .if1 .taken)))
+
+returns : tie.Need-returns
+returns c = search needs
+
+slice-aggregate-result-2 : tie.Need-slice-aggregate-result-2
+slice-aggregate-result-2 c = search needs
+
+returns-2 : tie.Need-returns-2
+returns-2 c = search needs
+
+pub first-points-spec : {M : Type 1} → statement M
+first-points-spec =
+    tie.close
+    (tie.spec mul-result slice-aggregate-result returns slice-aggregate-result-2 returns-2)
