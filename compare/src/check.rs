@@ -330,6 +330,70 @@ fn build(calls: &[Call], lens: (usize, usize)) -> Result<Builder, Differs> {
     Ok(s)
 }
 
+/// The same list played in one crossing: the same state and buffers. Of a list cut short, or with a byte that is no kind, what stands before.
+fn replay(r: &mut Rng, calls: &[Call], lens: (usize, usize)) -> Checked {
+    let mut calls = calls.to_vec();
+    let (mut kinds, mut numbers) = (Vec::new(), Vec::new());
+    for c in &calls {
+        let (kind, xs): (u8, Vec<f32>) = match *c {
+            Call::Move(p) => (0, p.to_vec()),
+            Call::Line(p) => (1, p.to_vec()),
+            Call::Quad(c, p) => (2, [c, p].concat()),
+            Call::Cubic(c, d, p) => (3, [c, d, p].concat()),
+            Call::Close => (4, vec![]),
+            Call::Conic(c, p, w) => (5, vec![c[0], c[1], p[0], p[1], w]),
+            Call::Rule(n) => (6 + u8::from(n != 0), vec![]),
+            Call::Note(a, b, radius) => (8, vec![a[0], a[1], b[0], b[1], radius]),
+        };
+        kinds.push(kind);
+        numbers.extend(xs);
+    }
+    match r.below(8) {
+        0 if !kinds.is_empty() => {
+            let i = r.below(kinds.len() as u64) as usize;
+            kinds[i] = 9 + r.below(247) as u8;
+            calls.truncate(i);
+        }
+        1 if !numbers.is_empty() => {
+            numbers.pop();
+            let taken = |k: &u8| [2, 2, 4, 6, 0, 5, 0, 0, 5][*k as usize];
+            let last = kinds.iter().rposition(|k| taken(k) > 0).expect("numbers are some call's");
+            calls.truncate(last);
+        }
+        2 => numbers.push(r.any()),
+        _ => (),
+    }
+    let (mut verbs, mut points) = (Bytes::new(lens.1), Floats::new(lens.0));
+    // SAFETY: the list is read; both buffers are lent with their own lengths.
+    let got = unsafe {
+        ffi::hz_replay(
+            kinds.as_ptr(),
+            kinds.len(),
+            numbers.as_ptr(),
+            numbers.len(),
+            verbs.lent.as_mut_ptr(),
+            lens.1,
+            points.lent.as_mut_ptr(),
+            lens.0,
+        )
+    };
+    let (mut one_verbs, mut one_points) = (Bytes::new(lens.1), Floats::new(lens.0));
+    // SAFETY: values only.
+    let mut s = unsafe { ffi::hz_new() };
+    let mut left = 0;
+    for c in &calls {
+        let (next, taken) = step(s, c, &mut one_verbs, &mut one_points)?;
+        s = next;
+        left += usize::from(!taken);
+    }
+    equal("replayed calls", (got.calls, got.refused), (calls.len(), left))?;
+    equal("replayed state", state_bits(&got.state), state_bits(&s))?;
+    verbs.want = one_verbs.lent;
+    points.want = one_points.want;
+    verbs.all("replayed verbs")?;
+    points.all("replayed points")
+}
+
 /// Any state, any lengths, any call.
 fn damaged_state(r: &mut Rng, mut s: Builder, lens: (usize, usize)) -> Checked {
     for _ in 0..=r.below(3) {
@@ -730,6 +794,9 @@ pub fn case(c: &Case) -> Checked {
     let path = b.clone().build();
     let lens = lengths(r, 2 * path.points().len(), path.verbs().len());
     let state = build(&c.calls, lens)?;
+    if r.one_in(2) {
+        replay(r, &c.calls, lens)?;
+    }
     if r.one_in(4) {
         damaged_state(r, state, lens)?;
     }

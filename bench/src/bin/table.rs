@@ -100,13 +100,51 @@ fn played(calls: &[Call], verbs: &mut [u8], points: &mut [f32]) -> u8 {
     refused
 }
 
+/// The calls as one encoded list.
+fn encoded(calls: &[Call]) -> (Vec<u8>, Vec<f32>) {
+    let (mut kinds, mut numbers) = (Vec::new(), Vec::new());
+    for c in calls {
+        let (kind, ps, w): (u8, &[Vec2], Option<f32>) = match *c {
+            Call::Move(p) => (0, &[p], None),
+            Call::Line(p) => (1, &[p], None),
+            Call::Quad(c, p) => (2, &[c, p], None),
+            Call::Cubic(c, d, p) => (3, &[c, d, p], None),
+            Call::Close => (4, &[], None),
+            Call::Conic(c, p, w) => (5, &[c, p], Some(w)),
+        };
+        kinds.push(kind);
+        numbers.extend(ps.iter().flat_map(|p| [p.x, p.y]));
+        numbers.extend(w);
+    }
+    (kinds, numbers)
+}
+
 fn building(what: &str, calls: &[Call]) {
     let (mut verbs, mut points) = (vec![0u8; 65_536], vec![0f32; 262_144]);
     assert_eq!(played(calls, &mut verbs, &mut points), 0);
     let times = best(calls.len(), || drop(black_box(built(black_box(calls)))), || {
         black_box(played(black_box(calls), &mut verbs, &mut points));
     });
-    row(what, "call", times);
+    row(&format!("{what}, call by call through C"), "call", times);
+    let (kinds, numbers) = encoded(calls);
+    let times = best(calls.len(), || drop(black_box(built(black_box(calls)))), || {
+        // SAFETY: the list is read; both buffers are lent with their own lengths.
+        let r = unsafe {
+            ffi::hz_replay(
+                kinds.as_ptr(),
+                kinds.len(),
+                numbers.as_ptr(),
+                numbers.len(),
+                verbs.as_mut_ptr(),
+                verbs.len(),
+                points.as_mut_ptr(),
+                points.len(),
+            )
+        };
+        assert_eq!((r.calls, r.refused), (calls.len(), 0));
+        black_box(&points);
+    });
+    row(&format!("{what}, as one list"), "call", times);
 }
 
 /// A path as the library takes it.
