@@ -1,3 +1,4 @@
+-- `cut_out` meets its contract. Assumes nothing.
 use borrow.Author.Needs.{needs}
 use Rattle.capi.proofs.cut_out.Statement.{statement}
 use Rattle.capi.proofs.cut_out.Tie as tie

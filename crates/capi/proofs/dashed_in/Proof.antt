@@ -1,3 +1,4 @@
+-- `dashed_in` meets its contract. Assumes nothing.
 use borrow.Author.Tests.{eq-eqb, ne-eqb}
 use Rattle.capi.specs.Dash.{dashedIn}
 use borrow.Author.Needs.{needs}

@@ -1,3 +1,4 @@
+-- `dashed_out` meets its contract. Assumes nothing.
 use borrow.Author.Needs.{needs}
 use Rattle.capi.proofs.dashed_out.Statement.{statement}
 use Rattle.capi.proofs.dashed_out.Tie as tie

@@ -1,3 +1,4 @@
+-- `hz_convexity` meets its contract. Assumes nothing.
 use borrow.Author.Needs.{needs}
 use Rattle.capi.proofs.hz_convexity.Statement.{statement}
 use Rattle.capi.proofs.hz_convexity.Tie as tie

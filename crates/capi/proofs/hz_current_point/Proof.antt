@@ -1,3 +1,4 @@
+-- `hz_current_point` meets its contract. Assumes nothing.
 use mathlib.Core.Path.{ap, _∙_}
 use Rattle.builder.specs.Build.{currentOf}
 use Rattle.capi.specs.Builder.{pointOut}

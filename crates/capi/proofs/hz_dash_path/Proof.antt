@@ -1,3 +1,4 @@
+-- `hz_dash_path` meets its contract. Assumes nothing.
 use Rattle.capi.proofs.Dashes.{dash-out}
 use borrow.Author.Needs.{needs}
 use Rattle.capi.proofs.hz_dash_path.Statement.{statement}

@@ -1,3 +1,4 @@
+-- `hz_drawn_outline` meets its contract. Assumes nothing.
 use Rattle.capi.specs.Dash.{hzOutline}
 use borrow.Author.Needs.{needs}
 use Rattle.capi.proofs.hz_drawn_outline.Statement.{statement}

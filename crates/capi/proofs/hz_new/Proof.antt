@@ -1,3 +1,4 @@
+-- `hz_new` meets its contract. Assumes nothing.
 use mathlib.Core.Path.{ap, _∙_}
 use Rattle.capi.specs.Builder.{stateOut}
 use borrow.Author.Needs.{needs}

@@ -1,3 +1,4 @@
+-- `hz_polygon_convexity` meets its contract. Assumes nothing.
 use borrow.Author.Needs.{needs}
 use Rattle.capi.proofs.hz_polygon_convexity.Statement.{statement}
 use Rattle.capi.proofs.hz_polygon_convexity.Tie as tie

@@ -1,3 +1,4 @@
+-- `hz_rounded_rect` meets its contract. Assumes nothing.
 use mathlib.Core.Path.{ap, _∙_}
 use Rattle.builder.specs.Build.{noteOf}
 use Rattle.capi.specs.Builder.{noteOut}

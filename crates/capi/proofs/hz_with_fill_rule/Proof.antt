@@ -1,3 +1,4 @@
+-- `hz_with_fill_rule` meets its contract. Assumes nothing.
 use Rattle.capi.proofs.Exported.{ruled-out}
 use borrow.Author.Needs.{needs}
 use Rattle.capi.proofs.hz_with_fill_rule.Statement.{statement}

@@ -1,3 +1,4 @@
+-- `note_out` meets its contract. Assumes nothing.
 use borrow.Author.Needs.{needs}
 use Rattle.capi.proofs.note_out.Statement.{statement}
 use Rattle.capi.proofs.note_out.Tie as tie

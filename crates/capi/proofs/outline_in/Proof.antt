@@ -1,3 +1,4 @@
+-- `outline_in` meets its contract. Assumes nothing.
 use borrow.Author.Needs.{needs}
 use Rattle.capi.proofs.outline_in.Statement.{statement}
 use Rattle.capi.proofs.outline_in.Tie as tie

@@ -1,3 +1,4 @@
+-- `point_out` meets its contract. Assumes nothing.
 use borrow.Author.Needs.{needs}
 use Rattle.capi.proofs.point_out.Statement.{statement}
 use Rattle.capi.proofs.point_out.Tie as tie

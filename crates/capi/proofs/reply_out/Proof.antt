@@ -1,3 +1,4 @@
+-- `reply_out` meets its contract. Assumes nothing.
 use Rattle.capi.specs.Builder.{replyOut}
 use borrow.Author.Needs.{needs}
 use Rattle.capi.proofs.reply_out.Statement.{statement}

@@ -1,3 +1,4 @@
+-- `rule_in` meets its contract. Assumes nothing.
 use Rattle.capi.specs.Builder.{ruleIn}
 use borrow.Author.Needs.{needs}
 use Rattle.capi.proofs.rule_in.Statement.{statement}

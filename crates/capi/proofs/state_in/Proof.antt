@@ -1,3 +1,4 @@
+-- `state_in` meets its contract. Assumes nothing.
 use Rattle.capi.specs.Builder.{stateIn}
 use borrow.Author.Needs.{needs}
 use Rattle.capi.proofs.state_in.Statement.{statement}

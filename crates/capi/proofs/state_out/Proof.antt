@@ -1,3 +1,4 @@
+-- `state_out` meets its contract. Assumes nothing.
 use Rattle.capi.specs.Builder.{stateOut}
 use borrow.Author.Needs.{needs}
 use Rattle.capi.proofs.state_out.Statement.{statement}

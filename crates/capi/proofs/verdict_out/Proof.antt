@@ -1,3 +1,4 @@
+-- `verdict_out` meets its contract. Assumes nothing.
 use borrow.Author.Needs.{needs}
 use Rattle.capi.proofs.verdict_out.Statement.{statement}
 use Rattle.capi.proofs.verdict_out.Tie as tie

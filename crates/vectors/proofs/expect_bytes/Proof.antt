@@ -1,3 +1,4 @@
+-- `expect_bytes` ends, and reads and writes only inside its buffers. Assumes nothing.
 use Prim.Native.Nat.{_-_}
 use lib.ListN.{length}
 use borrow.Author.Needs.{needs}

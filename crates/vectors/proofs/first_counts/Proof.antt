@@ -1,3 +1,4 @@
+-- `first_counts` ends, and reads and writes only inside its buffers. Assumes nothing.
 use mathlib.Core.Path.{sym}
 use native.Mathlib.Omega.{arith}
 use lib.Seq.{length-take-le}

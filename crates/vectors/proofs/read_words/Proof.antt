@@ -1,3 +1,4 @@
+-- `read_words` ends, and reads and writes only inside its buffers. Assumes nothing.
 use mathlib.Core.Path.{_≡_}
 use Prim.Native.Nat.{_-_}
 use lib.ListN.{length}
