@@ -3,3 +3,4 @@ pub mod Segments
 pub mod Encoded
 pub mod Steps
 pub mod Rects
+pub mod Styles

@@ -5,6 +5,7 @@ ghost use lib.ListN.{length};
 ghost use Rattle.vec2.specs.Points.{pointAt};
 ghost use Rattle.path.specs.Rect.{rect, emptyRect, widened, isEmptyRect, between, holds, widthOf, heightOf};
 ghost use Rattle.path.specs.Segment.{used, segAt};
+ghost use Rattle.path.specs.Style.{styleRow};
 ghost use Rattle.path.specs.Check.{usedBy, anyOver4, badFirst, badList, badPath};
 ghost use Rattle.path.specs.Cursor.{nextOf};
 use vec2::Vec2;
@@ -103,6 +104,21 @@ pub const MAX_POINTS: usize = 131072;
 // The points that each verb uses: move, line, quad, cubic, close.
 const POINT_COUNTS: [u8; 5] = [1, 1, 2, 3, 0];
 
+// The intervals of each line style, filled up to six with zeros, and how many each style has.
+const STYLES: [[f32; 6]; 9] = [
+    [0.0, 0.0, 0.0, 0.0, 0.0, 0.0],
+    [12.0, 6.0, 0.0, 0.0, 0.0, 0.0],
+    [6.0, 6.0, 0.0, 0.0, 0.0, 0.0],
+    [2.0, 4.0, 0.0, 0.0, 0.0, 0.0],
+    [12.0, 4.0, 2.0, 4.0, 0.0, 0.0],
+    [12.0, 4.0, 2.0, 4.0, 2.0, 4.0],
+    [8.0, 0.0, 0.0, 0.0, 0.0, 0.0],
+    [4.0, 2.0, 1.0, 0.0, 0.0, 0.0],
+    [24.0, 8.0, 0.0, 0.0, 0.0, 0.0],
+];
+
+const STYLE_LENGTHS: [usize; 9] = [0, 2, 2, 2, 4, 6, 1, 3, 2];
+
 // The points that a verb uses; none for a byte that is no verb.
 pub fn point_count(verb: u8) -> usize
     ensures { λ r. ⌜ (r ≡ used verb) × (r ≤ 3) ⌝ }
@@ -111,6 +127,25 @@ pub fn point_count(verb: u8) -> usize
         return POINT_COUNTS[verb as usize] as usize;
     }
     0
+}
+
+// A line style's row: its intervals are the first `len` of `values`, the others 0.
+pub struct StyleRow {
+    pub values: [f32; 6],
+    pub len: usize,
+}
+
+// The row of a line style; no intervals for a number that is no style.
+pub fn style(number: usize) -> StyleRow
+    ensures { λ r. ⌜ r ≡ styleRow number ⌝ }
+{
+    if number < 9 {
+        let values = STYLES[number];
+        let len = STYLE_LENGTHS[number];
+        return StyleRow { values, len };
+    }
+    let values = [0.0f32; 6];
+    StyleRow { values, len: 0 }
 }
 
 // ---- the path that is handed in

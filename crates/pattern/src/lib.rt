@@ -21,21 +21,6 @@ fn copy_in(dst: &mut [f32], at: usize, src: &[f32])
 
 // ---- the line styles
 
-// The line styles' intervals, filled up to six, and how many each has.
-const STYLES: [[f32; 6]; 9] = [
-    [0.0, 0.0, 0.0, 0.0, 0.0, 0.0],
-    [12.0, 6.0, 0.0, 0.0, 0.0, 0.0],
-    [6.0, 6.0, 0.0, 0.0, 0.0, 0.0],
-    [2.0, 4.0, 0.0, 0.0, 0.0, 0.0],
-    [12.0, 4.0, 2.0, 4.0, 0.0, 0.0],
-    [12.0, 4.0, 2.0, 4.0, 2.0, 4.0],
-    [8.0, 0.0, 0.0, 0.0, 0.0, 0.0],
-    [4.0, 2.0, 1.0, 0.0, 0.0, 0.0],
-    [24.0, 8.0, 0.0, 0.0, 0.0, 0.0],
-];
-
-const STYLE_LENGTHS: [usize; 9] = [0, 2, 2, 2, 4, 6, 1, 3, 2];
-
 // A line style: its intervals are the first `len` of `values`, the others 0. `refused` is 9 for a style over 8.
 #[repr(C)]
 pub struct LineStyle {
@@ -56,8 +41,9 @@ pub fn line_style(number: usize) -> LineStyle
             refused: 9,
         };
     }
-    let row = STYLES[number];
-    let len = STYLE_LENGTHS[number];
+    let style = path::style(number);
+    let row = style.values;
+    let len = style.len;
     copy_in(&mut values, 0, &row[..len]);
     LineStyle {
         values,
