@@ -101,6 +101,8 @@ pub const MAX_VERBS: usize = 65536;
 
 pub const MAX_POINTS: usize = 131072;
 
+// ---- the two constant tables
+
 // The points that each verb uses: move, line, quad, cubic, close.
 const POINT_COUNTS: [u8; 5] = [1, 1, 2, 3, 0];
 
@@ -194,11 +196,11 @@ fn begins_badly(verbs: &[u8]) -> bool
 pub fn check_points(points: &[f32]) -> u8
     ensures { λ r. ⌜ r ≡ badList (now (points .entry)) ⌝ }
 {
-    let n = points.len() / 2;
+    let count = points.len() / 2;
     if points.len() % 2 == 1 {
         return 1;
     }
-    if MAX_POINTS < n {
+    if MAX_POINTS < count {
         return 4;
     }
     0
