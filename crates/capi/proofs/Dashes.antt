@@ -4,12 +4,12 @@ use mathlib.Core.List.{List}
 use Prim.Native.Nat.{ℕ}
 use lib.Ieee.{Float}
 use Rattle.path.specs.declared.FillRule.{FillRule}
-use Rattle.dash.specs.declared.Dashed.{Dashed}
+use Rattle.dash.specs.Answer.{Answer}
 use Rattle.dash.specs.Dash.{outcome, dashing}
 use Rattle.capi.specs.declared.HzDashed.{HzDashed}
 use Rattle.capi.specs.Dash.{dashedOut, dashOutcome, dashOutcomeOut, hzDashing}
 
-pub dash-out : (r : Dashed) (k' : FillRule) (v : List ℕ) (p : List Float) (k : FillRule) (i : List Float) (a t : Float) (s : List Float) (e : List ℕ) (vs : List ℕ) (fs : List Float)
+pub dash-out : (r : Answer) (k' : FillRule) (v : List ℕ) (p : List Float) (k : FillRule) (i : List Float) (a t : Float) (s : List Float) (e : List ℕ) (vs : List ℕ) (fs : List Float)
     {q : HzDashed} {s' : List Float} {e' : List ℕ} {vs' : List ℕ} {fs' : List Float}
     → q ≡ dashedOut r → outcome r s' e' vs' fs' ≡ dashing v p k' i a t s e vs fs → k' ≡ k
     → dashOutcome q s' e' vs' fs' ≡ hzDashing v p k i a t s e vs fs

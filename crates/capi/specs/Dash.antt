@@ -2,6 +2,7 @@
 use Prim.Native.Nat.{ℕ}
 use mathlib.Core.Bool.{cond}
 use mathlib.Core.List.{List}
+use mathlib.Core.Option.{Option, none, some}
 use lib.ListN.{length}
 use lib.Dec.{eqb}
 use lib.Ieee.{Float}
@@ -9,6 +10,7 @@ use Rattle.path.specs.declared.FillRule.{FillRule}
 use Rattle.dash.specs.declared.Outline.{Outline}
 use Rattle.dash.specs.declared.Dashed.{Dashed}
 use Rattle.dash.specs.declared.Dashed.the-variants.{Whole, Cut, Refused}
+use Rattle.dash.specs.Answer.{Answer, answerOf}
 use Rattle.dash.specs.Dash.{Outcome, dashing}
 use Rattle.dash.specs.Outline.{outlineOf}
 use Rattle.capi.specs.declared.HzDashed.{HzDashed}
@@ -30,10 +32,13 @@ cutOut o =
       refused = 0;
     }
 
-abbrev pub dashedOut : Dashed → HzDashed
-dashedOut Whole = uncut 0 0
-dashedOut (Cut o) = cutOut o
-dashedOut (Refused n) = uncut 2 n
+-- what is cut, else the answer a
+abbrev pub valuesOut : Option Outline → HzDashed → HzDashed
+valuesOut none a = a
+valuesOut (some o) a = cutOut o
+
+abbrev pub dashedOut : Answer → HzDashed
+dashedOut a = valuesOut (a .cut) (uncut (cond (a .whole) 0 2) (a .number))
 
 -- the answer, and what the four lent buffers hold afterwards
 pub record HzDashing : Type 0 where
@@ -62,4 +67,4 @@ dashedIn a = cond (eqb (a .kind) 0) Whole (cond (eqb (a .kind) 1) (Cut (outlineI
 -- the drawn outline is the first floats of the path's buffer where the answer is Whole, else of the dash buffer: so many
 unfoldable pub hzOutline : List Float → ℕ → List Float → HzDashed → HzOutline
 hzOutline path points dash a =
-    record { floats = length (outlineOf path points dash (dashedIn a)); «from_dash» = flagOut (flagIn (a .kind)) }
+    record { floats = length (outlineOf path points dash (answerOf (dashedIn a))); «from_dash» = flagOut (flagIn (a .kind)) }

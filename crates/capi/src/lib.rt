@@ -14,6 +14,7 @@ ghost use Rattle.bounds.specs.declared.Question.the-variants.{Finite, InRange};
 ghost use Rattle.convexity.specs.Answer.{polygonVerdict, pathVerdict};
 ghost use Rattle.pattern.specs.Cycle.{usable};
 ghost use Rattle.pattern.specs.Style.{lineStyle};
+ghost use Rattle.dash.specs.Answer.{answerOf};
 ghost use Rattle.capi.specs.Builder.{ruleIn, ruleOut, flagIn, flagOut, stateIn, stateOut, replyWith, replyOut, outcome, outcomeOut, pointOut, noteOut};
 ghost use Rattle.capi.specs.Replay.{replayedOut, replayOutcome, hzReplayed};
 ghost use Rattle.capi.specs.Dash.{uncut, cutOut, dashedOut, dashOutcome, hzDashing, outlineIn, dashedIn, hzOutline};
@@ -602,7 +603,7 @@ fn cut_out(o: Outline) -> HzDashed
 }
 
 fn dashed_out(d: Dashed) -> HzDashed
-    ensures { λ r. ⌜ r ≡ dashedOut d ⌝ }
+    ensures { λ r. ⌜ r ≡ dashedOut (answerOf d) ⌝ }
 {
     match d {
         Dashed::Whole => not_cut(0, 0),

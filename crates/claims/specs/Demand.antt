@@ -4,6 +4,7 @@ use mathlib.Core.Path.{_≡_}
 use Prim.Native.Nat.{ℕ, _*_}
 use mathlib.Core.Bool.{true}
 use mathlib.Core.List.{List, _∷_, _++_}
+use mathlib.Core.Option.{some}
 use lib.ListN.{length, take}
 use lib.Ieee.{Float}
 use Rattle.vec2.specs.Points.{pointsIn}
@@ -17,7 +18,6 @@ use Rattle.builder.specs.Laid.{laidBy, pathVerbs, pathFloats}
 use Rattle.flatten.specs.Flatten as flat
 use Rattle.flatten.specs.Kept.{carried, Kept}
 use Rattle.dash.specs.declared.Outline.{Outline}
-use Rattle.dash.specs.declared.Dashed.the-variants.{Cut}
 use Rattle.dash.specs.Dash as dash
 use Rattle.dash.specs.Runs.{CutIntoRuns}
 
@@ -62,7 +62,7 @@ Dashes =
     (cs : List Call) (bs : List ℕ) (fs : List Float) (rule : FillRule) (intervals : List Float) (phase tolerance : Float)
     (scratch : List Float) (ends verbs : List ℕ) (points : List Float) (o : Outline) →
     let d = dashing cs bs fs rule intervals phase tolerance scratch ends verbs points in
-    d .reply ≡ Cut o → CutIntoRuns (laidBy cs bs fs) intervals phase tolerance rule o d
+    d .reply .cut ≡ some o → CutIntoRuns (laidBy cs bs fs) intervals phase tolerance rule o d
 
 pub record Demand3 : Type 0 where
   pub builds : Builds

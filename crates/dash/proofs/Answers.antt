@@ -1,9 +1,10 @@
--- How dashing's outcome follows from its tests. Assumes nothing.
+-- An answer's number and values tell its case, and how dashing's outcome follows from its tests. Assumes nothing.
 use mathlib.Core.Path.{_≡_, refl, sym, _∙_, ap}
 use Prim.Native.Nat.{ℕ, zero, suc, _/_, _%_, _≤_, _<_}
 use native.Mathlib.Omega.{arith}
 use mathlib.Core.Bool.{Bool, true, false, cond, _&&_, true≢false}
 use mathlib.Core.List.{List, [], _∷_, _++_}
+use mathlib.Core.Option.{Option·none-ne-some, Option·some-injective}
 use lib.ListN.{length}
 use lib.Seq.{sets}
 use lib.Dec.{ltb, eqb}
@@ -18,14 +19,26 @@ use Rattle.path.specs.declared.FillRule.{FillRule}
 use Rattle.path.specs.Segment.{segments}
 use Rattle.path.specs.Check.{badPath}
 use Rattle.flatten.specs.Flatten.{pointsOut, endsOut}
-use Rattle.flatten.specs.Polylines.{polylines}
 use Rattle.pattern.specs.Cycle.{some, usable, cycleOf, sumFrom, cuts}
 use Rattle.walk.specs.declared.Pos.{Pos}
 use Rattle.walk.specs.Phase.{startOf}
-use Rattle.walk.specs.Walk.{walkAll}
 use Rattle.dash.specs.declared.Dashed.{Dashed}
-use Rattle.dash.specs.declared.Dashed.the-variants.{Whole, Refused}
-use Rattle.dash.specs.Dash.{even, thenEight, refusal, dashes, scratchFits, outFits, CutOutcome, cutOutcome, outIf, outOutcome, Outcome, outcome, answered, answering, dashing}
+use Rattle.dash.specs.declared.Dashed.the-variants.{Whole, Cut, Refused}
+use Rattle.dash.specs.Answer.{Answer, refusedBy, drawnWhole, answerOf}
+use Rattle.dash.specs.Dash.{even, thenEight, refusal, walked, dashes, scratchFits, cutOutcome, outOutcome, Outcome, outcome, keeping, cutting, dashing}
+
+-- ---- the case
+
+pub answer-case : (a b : Dashed) → answerOf a ≡ answerOf b → a ≡ b
+answer-case Whole Whole h = refl
+answer-case Whole (Cut p) h = absurd (true≢false (ap (λ (z : Answer). z .whole) h))
+answer-case Whole (Refused m) h = absurd (true≢false (ap (λ (z : Answer). z .whole) h))
+answer-case (Cut o) Whole h = absurd (true≢false (sym (ap (λ (z : Answer). z .whole) h)))
+answer-case (Cut o) (Cut p) h = ap Cut (Option·some-injective o p (ap (λ (z : Answer). z .cut) h))
+answer-case (Cut o) (Refused m) h = absurd (Option·none-ne-some o (sym (ap (λ (z : Answer). z .cut) h)))
+answer-case (Refused n) Whole h = absurd (true≢false (sym (ap (λ (z : Answer). z .whole) h)))
+answer-case (Refused n) (Cut p) h = absurd (Option·none-ne-some p (ap (λ (z : Answer). z .cut) h))
+answer-case (Refused n) (Refused m) h = ap Refused (ap (λ (z : Answer). z .number) h)
 
 -- ---- refusals
 
@@ -46,39 +59,33 @@ module _ (verbs : List ℕ) (points : List Float) (rule : FillRule) (intervals :
   -- ---- the scratch
 
   pub scratch-full : scratchFits ps es scratch ends ≡ false → (s' : List Float) (e' : List ℕ) → s' ≡ scratch → e' ≡ ends
-      → outcome (Refused 3) s' e' us gs ≡ answering 0 true verbs points rule intervals phase tolerance scratch ends us gs
+      → outcome (refusedBy 3) s' e' us gs ≡ cutting verbs points rule intervals phase tolerance scratch ends us gs
   scratch-full h s' e' p q = rw (h, p, q)
-
-  -- what the second half answers, with what the scratch holds
-  over : (b : Bool) (r : Dashed) (s' : List Float) (e' : List ℕ) (vs' : List ℕ) (fs' : List Float) → s' ≡ sets scratch 0 (flat ps) → e' ≡ sets ends 0 es
-      → cutOutcome r vs' fs' ≡ outIf b ss (length ps) (length es) rule us gs → outcome r s' e' vs' fs' ≡ answered 0 true true b ps es ss rule scratch ends us gs
-  over true r s' e' vs' fs' p q h = rw (p, q) (ap (λ (o : CutOutcome). outcome (o .reply) (sets scratch 0 (flat ps)) (sets ends 0 es) (o .verbs) (o .floats)) h)
-  over false r s' e' vs' fs' p q h = rw (p, q) (ap (λ (o : CutOutcome). outcome (o .reply) (sets scratch 0 (flat ps)) (sets ends 0 es) (o .verbs) (o .floats)) h)
 
   pub scratch-kept : scratchFits ps es scratch ends ≡ true → (s' : List Float) (e' : List ℕ) → s' ≡ sets scratch 0 (flat ps) → e' ≡ sets ends 0 es
       → (l : List Float) (k : List ℕ) → l ≡ flat ps → k ≡ es → (cs : List Float) → cs ≡ cycleOf intervals → (period : Float) → period ≡ sumFrom f0 cs → (start : Pos) → start ≡ startOf cs phase period
-      → (r : Dashed) (vs' : List ℕ) (fs' : List Float) → cutOutcome r vs' fs' ≡ outOutcome (walkAll cs start (polylines 0 (pointsIn l) k)) (length l / 2) (length k) rule us gs
-      → outcome r s' e' vs' fs' ≡ answering 0 true verbs points rule intervals phase tolerance scratch ends us gs
-  scratch-kept f s' e' p q l k lp kp cs cp period pp start sp r vs' fs' h =
+      → (a : Answer) (vs' : List ℕ) (fs' : List Float) → cutOutcome a vs' fs' ≡ outOutcome (walked cs start (pointsIn l) k) (length l / 2) (length k) rule us gs
+      → outcome a s' e' vs' fs' ≡ cutting verbs points rule intervals phase tolerance scratch ends us gs
+  scratch-kept f s' e' p q l k lp kp cs cp period pp start sp a vs' fs' h =
       let n : length l / 2 ≡ length ps = omega (arith, ap length lp, length-flat ps) in
       let m : pointsIn l ≡ ps = ap pointsIn lp ∙ pointsIn-flat ps in
-      let d : walkAll cs start (polylines 0 (pointsIn l) k) ≡ ss = rw (m, kp, sp, pp, cp) in
-      rw f (over (outFits ss us gs) r s' e' vs' fs' p q (h ∙ rw (d, n, kp)))
+      let d : walked cs start (pointsIn l) k ≡ ss = rw (m, kp, sp, pp, cp) in
+      rw (f, p, q) (ap (keeping (sets scratch 0 (flat ps)) (sets ends 0 es)) (h ∙ rw (d, n, kp)))
 
   -- ---- the whole call
 
   abbrev number : ℕ
   number = refusal verbs points intervals (length scratch) (length gs)
 
-  pub is-refused : (n : ℕ) → n ≡ number → (n ≡ 0 → ⊥) → outcome (Refused n) scratch ends us gs ≡ dashing verbs points rule intervals phase tolerance scratch ends us gs
+  pub is-refused : (n : ℕ) → n ≡ number → (n ≡ 0 → ⊥) → outcome (refusedBy n) scratch ends us gs ≡ dashing verbs points rule intervals phase tolerance scratch ends us gs
   is-refused zero h z = absurd (z refl)
   is-refused (suc n) h z = rw (← h)
 
-  pub whole : 0 ≡ number → cuts intervals phase tolerance ≡ false → outcome Whole scratch ends us gs ≡ dashing verbs points rule intervals phase tolerance scratch ends us gs
+  pub whole : 0 ≡ number → cuts intervals phase tolerance ≡ false → outcome drawnWhole scratch ends us gs ≡ dashing verbs points rule intervals phase tolerance scratch ends us gs
   whole h k = rw (← h, k)
 
   pub is-cut : 0 ≡ number → cuts intervals phase tolerance ≡ true → (o : Outcome)
-      → o ≡ answering 0 true verbs points rule intervals phase tolerance scratch ends us gs → o ≡ dashing verbs points rule intervals phase tolerance scratch ends us gs
+      → o ≡ cutting verbs points rule intervals phase tolerance scratch ends us gs → o ≡ dashing verbs points rule intervals phase tolerance scratch ends us gs
   is-cut h k o q = rw (← h, k) q
 
   eight : (n k : ℕ) → 0 ≡ thenEight n k → (n ≡ 0) × (k ≤ 64)

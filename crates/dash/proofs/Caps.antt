@@ -21,7 +21,7 @@ use Rattle.walk.specs.Walk.{walkAll}
 use Rattle.walk.proofs.Lays.{walk-points}
 use Rattle.walk.specs.Lay.{Out, out, laid, Room}
 use Rattle.walk.specs.Count.{UpTo, itself}
-use Rattle.dash.specs.declared.Dashed.the-variants.{Cut, Refused}
+use Rattle.dash.specs.Answer.{refusedBy, cutInto}
 use Rattle.dash.specs.Dash.{fitsBoth, outFits, Cap, cutOutcome, outIf, outOutcome}
 
 pub both : (a b : Bool) → a && b ≡ true → (a ≡ true) × (b ≡ true)
@@ -72,7 +72,7 @@ module _ (cs : List Float) (start : Pos) (ls : List (List Vec2)) (us : List ℕ)
   fits-is = rw one (c (length ss))
 
   module _ (np k : ℕ) (rule : FillRule) where
-    pub too-many : cap < n → cutOutcome (Refused 3) us gs ≡ outOutcome ss np k rule us gs
+    pub too-many : cap < n → cutOutcome (refusedBy 3) us gs ≡ outOutcome ss np k rule us gs
     too-many h = let e : outFits ss us gs ≡ false = fits-is ∙ lt-leb (length ss) cap (u .over h) in ap (λ (b : Bool). outIf b ss np k rule us gs) (sym e)
 
   module _ (h : n ≤ cap) where
@@ -83,7 +83,7 @@ module _ (cs : List Float) (start : Pos) (ls : List (List Vec2)) (us : List ℕ)
     has-room = let f = fits (length ss) (length (allPoints ss)) (length us) (length gs) all-fits in (omega (arith, f .verb), omega (arith, f .point))
 
     pub laid-out : (np k : ℕ) (rule : FillRule) (vs : List ℕ) (fs : List Float) (m : ℕ) → out vs fs m ≡ laid (out us gs 0) ss →
-        cutOutcome (Cut (record { verbs = m; points = m; scratch = np; polylines = k; rule = rule })) vs fs ≡ outOutcome ss np k rule us gs
+        cutOutcome (cutInto (record { verbs = m; points = m; scratch = np; polylines = k; rule = rule })) vs fs ≡ outOutcome ss np k rule us gs
     laid-out np k rule vs fs m e =
         let a : m ≡ length ss = ap (λ (o : Out). o .at) e ∙ zero-add (length ss) in
         let b : m ≡ length (allPoints ss) = a ∙ sym one in

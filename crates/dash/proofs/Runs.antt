@@ -4,6 +4,7 @@ use Prim.Native.Nat.{ℕ, zero, suc, _*_, _/_, _≤_}
 use native.Mathlib.Omega.{arith}
 use mathlib.Core.Bool.{Bool, true, false}
 use mathlib.Core.List.{List}
+use mathlib.Core.Option.{none, some, Option·none-ne-some, Option·some-injective}
 use lib.ListN.{length, take}
 use lib.Seq.{sets}
 use lib.Dec.{leb}
@@ -22,9 +23,7 @@ use Rattle.pattern.specs.Cycle.{cycleOf, period, cuts}
 use Rattle.walk.specs.Phase.{startOf}
 use Rattle.walk.proofs.Runs.{all-runs}
 use Rattle.dash.specs.declared.Outline.{Outline}
-use Rattle.dash.specs.declared.Dashed.{Dashed}
-use Rattle.dash.specs.declared.Dashed.the-variants.{Cut}
-use Rattle.dash.specs.Dash.{refusal, dashes, scratchFits, outFits, outlineFor, Outcome, outcome, answered, dashing}
+use Rattle.dash.specs.Dash.{refusal, dashes, scratchFits, outFits, outlineFor, outIf, Outcome, keeping, keptIf, answered, dashing}
 use Rattle.dash.specs.Runs.{CutIntoRuns}
 use Rattle.dash.proofs.Caps.{both, fits}
 use Rattle.dash.proofs.Scratch.{front}
@@ -39,11 +38,11 @@ module _ (path : List Segment) (intervals : List Float) (phase tolerance : Float
   abbrev ss : List Segment
   ss = dashes intervals phase ps es
 
-  -- the outcome of a cut
-  abbrev whole : Dashed → Outcome
-  whole r = outcome r (sets scratch 0 (flat ps)) (sets ends 0 es) (sets vs 0 (bytesOf ss)) (sets fs 0 (flat (allPoints ss)))
+  -- what is left once the scratch takes the polylines, by whether the dash buffers take the dashes
+  abbrev left : Bool → Outcome
+  left b = keeping (sets scratch 0 (flat ps)) (sets ends 0 es) (outIf b ss (length ps) (length es) rule vs fs)
 
-  laid : scratchFits ps es scratch ends ≡ true → outFits ss vs fs ≡ true → outlineFor ss (length ps) (length es) rule ≡ o → CutIntoRuns path intervals phase tolerance rule o (whole (Cut o))
+  laid : scratchFits ps es scratch ends ≡ true → outFits ss vs fs ≡ true → outlineFor ss (length ps) (length es) rule ≡ o → CutIntoRuns path intervals phase tolerance rule o (left true)
   laid f g q =
       let a = both (leb (length ps) (length scratch / 2)) (leb (length es) (length ends)) f in
       let y : length ps ≤ length scratch / 2 = leb-true _ _ (a .0) in
@@ -64,20 +63,30 @@ module _ (path : List Segment) (intervals : List Float) (phase tolerance : Float
         same-rule = sym (ap (λ (z : Outline). z .rule) q);
       }
 
-  -- only one of the answers is a Cut
-  answers : (n : ℕ) (c s u : Bool) → scratchFits ps es scratch ends ≡ s → outFits ss vs fs ≡ u → answered n c s u ps es ss rule scratch ends vs fs .reply ≡ Cut o
-      → CutIntoRuns path intervals phase tolerance rule o (answered n c s u ps es ss rule scratch ends vs fs)
-  answers (suc n) c s u f g h = let z : _≡_ {A = ℕ} 0 1 = cc in absurd (omega arith)
-  answers zero false s u f g h = let z : _≡_ {A = ℕ} 0 1 = cc in absurd (omega arith)
-  answers zero true false u f g h = let z : _≡_ {A = ℕ} 0 1 = cc in absurd (omega arith)
-  answers zero true true false f g h = let z : _≡_ {A = ℕ} 0 1 = cc in absurd (omega arith)
-  answers zero true true true f g h =
-      let q : outlineFor ss (length ps) (length es) rule ≡ o = cc in
-      subst (λ (z : Dashed). CutIntoRuns path intervals phase tolerance rule o (whole z)) (sym h) (laid f g q)
+  -- only one of the answers is a cut
+  not-cut : {A : Type 0} → none ≡ some o → A
+  not-cut h = absurd (Option·none-ne-some o h)
+
+  -- of an outcome
+  abbrev Cuts : Outcome → Type 0
+  Cuts z = z .reply .cut ≡ some o → CutIntoRuns path intervals phase tolerance rule o z
+
+  out : (b : Bool) → scratchFits ps es scratch ends ≡ true → outFits ss vs fs ≡ b → Cuts (left b)
+  out true f g h = laid f g (Option·some-injective _ o h)
+  out false f g h = not-cut h
+
+  kept : (b : Bool) → scratchFits ps es scratch ends ≡ b → Cuts (keptIf b ps es ss rule scratch ends vs fs)
+  kept true f h = out (outFits ss vs fs) f refl h
+  kept false f h = not-cut h
+
+  answers : (n : ℕ) (c : Bool) → Cuts (answered n c (keptIf (scratchFits ps es scratch ends) ps es ss rule scratch ends vs fs) scratch ends vs fs)
+  answers (suc n) c h = not-cut h
+  answers zero false h = not-cut h
+  answers zero true h = kept (scratchFits ps es scratch ends) refl h
 
 -- what `dash_path` ensures of its outcome b
 pub dash-runs : (verbs : List ℕ) (points : List Float) (rule : FillRule) (intervals : List Float) (phase tolerance : Float) (scratch : List Float) (ends vs : List ℕ) (fs : List Float) (b : Outcome) (o : Outline)
-    → b ≡ dashing verbs points rule intervals phase tolerance scratch ends vs fs → b .reply ≡ Cut o → CutIntoRuns (segments verbs points) intervals phase tolerance rule o b
+    → b ≡ dashing verbs points rule intervals phase tolerance scratch ends vs fs → b .reply .cut ≡ some o → CutIntoRuns (segments verbs points) intervals phase tolerance rule o b
 dash-runs verbs points rule intervals phase tolerance scratch ends vs fs b o e h =
     subst (λ (z : Outcome). CutIntoRuns (segments verbs points) intervals phase tolerance rule o z) (sym e)
-    (answers (segments verbs points) intervals phase tolerance rule scratch ends vs fs o (refusal verbs points intervals (length scratch) (length fs)) (cuts intervals phase tolerance) _ _ refl refl (sym (ap (λ (z : Outcome). z .reply) e) ∙ h))
+    (answers (segments verbs points) intervals phase tolerance rule scratch ends vs fs o (refusal verbs points intervals (length scratch) (length fs)) (cuts intervals phase tolerance) (sym (ap (λ (z : Outcome). z .reply .cut) e) ∙ h))

@@ -16,11 +16,11 @@ use Rattle.path.specs.Check.{badPath, maxVerbs, maxPoints}
 use Rattle.flatten.specs.Flatten.{pointsOut, endsOut}
 use Rattle.flatten.specs.Polylines.{polylines}
 use Rattle.pattern.specs.Cycle.{cycleOf, period, cuts}
+use Rattle.walk.specs.declared.Pos.{Pos}
 use Rattle.walk.specs.Phase.{startOf}
 use Rattle.walk.specs.Walk.{walkAll}
 use Rattle.dash.specs.declared.Outline.{Outline}
-use Rattle.dash.specs.declared.Dashed.{Dashed}
-use Rattle.dash.specs.declared.Dashed.the-variants.{Whole, Cut, Refused}
+use Rattle.dash.specs.Answer.{Answer, refusedBy, drawnWhole, cutInto}
 
 -- ---- the refusals before any work
 
@@ -39,9 +39,13 @@ refusal vs fs intervals scratch floats =
 
 -- ---- what is drawn
 
--- the dashes of polylines: each is walked, the phase starting anew
+-- the dashes of polylines, points ps that end at es: each is walked by the working cycle, from the same start
+abbrev pub walked : List Float → Pos → List Vec2 → List ℕ → List Segment
+walked cycle start ps es = walkAll cycle start (polylines 0 ps es)
+
+-- by a pattern and a phase
 abbrev pub dashes : List Float → Float → List Vec2 → List ℕ → List Segment
-dashes intervals phase ps es = let cs = cycleOf intervals in walkAll cs (startOf cs phase (period intervals)) (polylines 0 ps es)
+dashes intervals phase ps es = let cycle = cycleOf intervals in walked cycle (startOf cycle phase (period intervals)) ps es
 
 -- 3: the scratch takes the points and the ends
 abbrev pub scratchFits : List Vec2 → List ℕ → List Float → List ℕ → Bool
@@ -58,57 +62,63 @@ Cap verbs floats r = (n : ℕ) → fitsBoth n n verbs floats ≡ leb n r
 abbrev pub outFits : List Segment → List ℕ → List Float → Bool
 outFits ss verbs floats = fitsBoth (length ss) (length (allPoints ss)) (length verbs) (length floats)
 
--- ---- the second half: the reply and the dash buffers, once the scratch holds n points in k polylines
+-- ---- the reply and the dash buffers, once the scratch keeps n points in k polylines
 
 pub record CutOutcome : Type 0 where
-  pub reply : Dashed
+  pub reply : Answer
   pub verbs : List ℕ
   pub floats : List Float
 
-abbrev pub cutOutcome : Dashed → List ℕ → List Float → CutOutcome
-cutOutcome r vs fs = record { reply = r; verbs = vs; floats = fs }
+abbrev pub cutOutcome : Answer → List ℕ → List Float → CutOutcome
+cutOutcome a vs fs = record { reply = a; verbs = vs; floats = fs }
 
 abbrev pub outlineFor : List Segment → ℕ → ℕ → FillRule → Outline
 outlineFor ss n k rule = record { verbs = length ss; points = length (allPoints ss); scratch = n; polylines = k; rule = rule }
 
+-- laid where the dash buffers take them, else 3
 abbrev pub outIf : Bool → List Segment → ℕ → ℕ → FillRule → List ℕ → List Float → CutOutcome
-outIf true ss n k rule vs fs = cutOutcome (Cut (outlineFor ss n k rule)) (sets vs 0 (bytesOf ss)) (sets fs 0 (flat (allPoints ss)))
-outIf false ss n k rule vs fs = cutOutcome (Refused 3) vs fs
+outIf true ss n k rule vs fs = cutOutcome (cutInto (outlineFor ss n k rule)) (sets vs 0 (bytesOf ss)) (sets fs 0 (flat (allPoints ss)))
+outIf false ss n k rule vs fs = cutOutcome (refusedBy 3) vs fs
 
 abbrev pub outOutcome : List Segment → ℕ → ℕ → FillRule → List ℕ → List Float → CutOutcome
 outOutcome ss n k rule vs fs = outIf (outFits ss vs fs) ss n k rule vs fs
 
--- ---- the whole call
+-- ---- the reply and all four buffers
 
 pub record Outcome : Type 0 where
-  pub reply : Dashed
+  pub reply : Answer
   pub scratch : List Float
   pub ends : List ℕ
   pub verbs : List ℕ
   pub floats : List Float
 
-abbrev pub outcome : Dashed → List Float → List ℕ → List ℕ → List Float → Outcome
-outcome r s e vs fs = record { reply = r; scratch = s; ends = e; verbs = vs; floats = fs }
+abbrev pub outcome : Answer → List Float → List ℕ → List ℕ → List Float → Outcome
+outcome a s e vs fs = record { reply = a; scratch = s; ends = e; verbs = vs; floats = fs }
 
--- by the refusal's number; whether the path is cut; whether the scratch, and the dash buffers, can take what is to be written
-abbrev pub answered : ℕ → Bool → Bool → Bool → List Vec2 → List ℕ → List Segment → FillRule → List Float → List ℕ → List ℕ → List Float → Outcome
-answered (suc n) c s o ps es ss rule scratch ends vs fs = outcome (Refused (suc n)) scratch ends vs fs
-answered zero false s o ps es ss rule scratch ends vs fs = outcome Whole scratch ends vs fs
-answered zero true false o ps es ss rule scratch ends vs fs = outcome (Refused 3) scratch ends vs fs
-answered zero true true false ps es ss rule scratch ends vs fs = outcome (Refused 3) (sets scratch 0 (flat ps)) (sets ends 0 es) vs fs
-answered zero true true true ps es ss rule scratch ends vs fs =
-    outcome (Cut (outlineFor ss (length ps) (length es) rule))
-    (sets scratch 0 (flat ps)) (sets ends 0 es) (sets vs 0 (bytesOf ss)) (sets fs 0 (flat (allPoints ss)))
+abbrev pub keeping : List Float → List ℕ → CutOutcome → Outcome
+keeping s e o = outcome (o .reply) s e (o .verbs) (o .floats)
 
--- from a refusal's number and whether the path is cut
-abbrev pub answering : ℕ → Bool → List ℕ → List Float → FillRule → List Float → Float → Float → List Float → List ℕ → List ℕ → List Float → Outcome
-answering n c verbs points rule intervals phase tolerance scratch ends vs fs =
+-- the scratch keeps the polylines where it takes them, else 3
+abbrev pub keptIf : Bool → List Vec2 → List ℕ → List Segment → FillRule → List Float → List ℕ → List ℕ → List Float → Outcome
+keptIf true ps es ss rule scratch ends vs fs =
+    keeping (sets scratch 0 (flat ps)) (sets ends 0 es) (outOutcome ss (length ps) (length es) rule vs fs)
+keptIf false ps es ss rule scratch ends vs fs = outcome (refusedBy 3) scratch ends vs fs
+
+-- Cut: the path is flattened into the scratch, and each polyline walked; 3 for the scratch comes before 3 for the dash buffers
+abbrev pub cutting : List ℕ → List Float → FillRule → List Float → Float → Float → List Float → List ℕ → List ℕ → List Float → Outcome
+cutting verbs points rule intervals phase tolerance scratch ends vs fs =
     let path = segments verbs points in
     let ps = pointsOut tolerance path in
     let es = endsOut tolerance path in
-    let ss = dashes intervals phase ps es in
-    answered n c (scratchFits ps es scratch ends) (outFits ss vs fs) ps es ss rule scratch ends vs fs
+    keptIf (scratchFits ps es scratch ends) ps es (dashes intervals phase ps es) rule scratch ends vs fs
+
+-- by the refusal's number; then Whole is decided, and touches no buffer
+abbrev pub answered : ℕ → Bool → Outcome → List Float → List ℕ → List ℕ → List Float → Outcome
+answered (suc n) cut o scratch ends vs fs = outcome (refusedBy (suc n)) scratch ends vs fs
+answered zero false o scratch ends vs fs = outcome drawnWhole scratch ends vs fs
+answered zero true o scratch ends vs fs = o
 
 abbrev pub dashing : List ℕ → List Float → FillRule → List Float → Float → Float → List Float → List ℕ → List ℕ → List Float → Outcome
 dashing verbs points rule intervals phase tolerance scratch ends vs fs =
-    answering (refusal verbs points intervals (length scratch) (length fs)) (cuts intervals phase tolerance) verbs points rule intervals phase tolerance scratch ends vs fs
+    answered (refusal verbs points intervals (length scratch) (length fs)) (cuts intervals phase tolerance)
+    (cutting verbs points rule intervals phase tolerance scratch ends vs fs) scratch ends vs fs

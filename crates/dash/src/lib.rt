@@ -1,17 +1,15 @@
 // `dash_path`: a path cut into the drawn pieces of a dash pattern, and `drawn_outline`.
 ghost use mathlib.Core.Path.{_≡_};
-ghost use mathlib.Core.Bool.{true};
 ghost use Prim.Native.Nat.{_+_, _*_, _/_, _%_, _^_, _≤_, _<_};
 ghost use lib.ListN.{length};
 ghost use Rattle.vec2.specs.Points.{pointsIn};
 ghost use Rattle.path.specs.Check.{badPath};
-ghost use Rattle.flatten.specs.Polylines.{polylines};
 ghost use Rattle.pattern.specs.Cycle.{cycleOf};
-ghost use Rattle.walk.specs.Walk.{walkAll};
 ghost use Rattle.walk.specs.Lay.{out, laid, Room};
 ghost use Rattle.walk.specs.Count.{UpTo, itself};
 ghost use Rattle.dash.specs.Ends.{Ordered};
-ghost use Rattle.dash.specs.Dash.{refusal as refusalOf, Cap, cutOutcome, outOutcome, outcome, answering, dashing};
+ghost use Rattle.dash.specs.Answer.{answerOf};
+ghost use Rattle.dash.specs.Dash.{refusal as refusalOf, walked, Cap, cutOutcome, outOutcome, outcome, cutting, dashing};
 ghost use Rattle.dash.specs.Outline.{part as partOf, outlineOf};
 use path::FillRule;
 use walk::Pos;
@@ -74,7 +72,7 @@ fn room(verbs: usize, floats: usize) -> usize
 // How many verbs the walks of all polylines lay; the count stops over the cap, so that a fine pattern on a long path is refused at once.
 fn count_all(points: &[f32], ends: &[usize], cycle: &[f32], start: Pos, cap: usize) -> usize
     requires { ⌜ (start .index < length (now cycle)) × (cap < 2 ^ 61) × Ordered (length (now points)) 0 (now ends) ⌝ }
-    ensures { λ r. ⌜ UpTo itself cap (length (walkAll (now (cycle .entry)) start (polylines 0 (pointsIn (now (points .entry))) (now (ends .entry))))) r ⌝ }
+    ensures { λ r. ⌜ UpTo itself cap (length (walked (now (cycle .entry)) start (pointsIn (now (points .entry))) (now (ends .entry)))) r ⌝ }
 {
     let mut from = 0usize;
     let mut k = 0usize;
@@ -103,9 +101,9 @@ fn lay_all(
     floats: &mut [f32],
 ) -> usize
     requires { ⌜ (start .index < length (now cycle)) × Ordered (length (now points)) 0 (now ends)
-        × Room (length (now verbs)) (length (now floats)) (laid (out (now verbs) (now floats) 0) (walkAll (now cycle) start (polylines 0 (pointsIn (now points)) (now ends)))) ⌝ }
+        × Room (length (now verbs)) (length (now floats)) (laid (out (now verbs) (now floats) 0) (walked (now cycle) start (pointsIn (now points)) (now ends))) ⌝ }
     ensures { λ r. ⌜ out (now (verbs .exit)) (now (floats .exit)) r
-        ≡ laid (out (now (verbs .entry)) (now (floats .entry)) 0) (walkAll (now (cycle .entry)) start (polylines 0 (pointsIn (now (points .entry))) (now (ends .entry)))) ⌝ }
+        ≡ laid (out (now (verbs .entry)) (now (floats .entry)) 0) (walked (now (cycle .entry)) start (pointsIn (now (points .entry))) (now (ends .entry))) ⌝ }
 {
     let mut from = 0usize;
     let mut k = 0usize;
@@ -132,8 +130,8 @@ fn cut_all(
     floats: &mut [f32],
 ) -> Dashed
     requires { ⌜ (start .index < length (now cycle)) × Ordered (length (now points)) 0 (now ends) ⌝ }
-    ensures { λ r. ⌜ cutOutcome r (now (verbs .exit)) (now (floats .exit))
-        ≡ outOutcome (walkAll (now (cycle .entry)) start (polylines 0 (pointsIn (now (points .entry))) (now (ends .entry)))) (length (now (points .entry)) / 2) (length (now (ends .entry))) rule (now (verbs .entry)) (now (floats .entry)) ⌝ }
+    ensures { λ r. ⌜ cutOutcome (answerOf r) (now (verbs .exit)) (now (floats .exit))
+        ≡ outOutcome (walked (now (cycle .entry)) start (pointsIn (now (points .entry))) (now (ends .entry))) (length (now (points .entry)) / 2) (length (now (ends .entry))) rule (now (verbs .entry)) (now (floats .entry)) ⌝ }
 {
     let cap = room(verbs.len(), floats.len());
     let n = count_all(points, ends, cycle, start, cap);
@@ -166,8 +164,8 @@ fn cut(
     fs: &mut [f32],
 ) -> Dashed
     requires { ⌜ (length (now scratch) % 2 ≡ 0) × (badPath (now verbs) (now points) ≡ 0) × (now cycle ≡ cycleOf (now intervals)) × (0 < length (now cycle)) ⌝ }
-    ensures { λ r. ⌜ outcome r (now (scratch .exit)) (now (ends .exit)) (now (vs .exit)) (now (fs .exit))
-        ≡ answering 0 true (now (verbs .entry)) (now (points .entry)) rule (now (intervals .entry)) phase tolerance (now (scratch .entry)) (now (ends .entry)) (now (vs .entry)) (now (fs .entry)) ⌝ }
+    ensures { λ r. ⌜ outcome (answerOf r) (now (scratch .exit)) (now (ends .exit)) (now (vs .exit)) (now (fs .exit))
+        ≡ cutting (now (verbs .entry)) (now (points .entry)) rule (now (intervals .entry)) phase tolerance (now (scratch .entry)) (now (ends .entry)) (now (vs .entry)) (now (fs .entry)) ⌝ }
 {
     let f = flatten::flatten(verbs, points, tolerance, scratch, ends);
     if f.refused != 0 {
@@ -193,7 +191,7 @@ pub fn dash_path(
     dash_verbs: &mut [u8],
     dash_points: &mut [f32],
 ) -> Dashed
-    ensures { λ r. ⌜ outcome r (now (scratch .exit)) (now (ends .exit)) (now («dash_verbs» .exit)) (now («dash_points» .exit))
+    ensures { λ r. ⌜ outcome (answerOf r) (now (scratch .exit)) (now (ends .exit)) (now («dash_verbs» .exit)) (now («dash_points» .exit))
         ≡ dashing (now (verbs .entry)) (now (points .entry)) rule (now (intervals .entry)) phase tolerance (now (scratch .entry)) (now (ends .entry)) (now («dash_verbs» .entry)) (now («dash_points» .entry)) ⌝ }
 {
     let refused = refusal(verbs, points, intervals, scratch.len(), dash_points.len());
@@ -239,7 +237,7 @@ pub fn drawn_outline<'a>(
     dash: &'a [f32],
     answer: Dashed,
 ) -> &'a [f32]
-    ensures { λ r. ⌜ now r ≡ outlineOf (now (path .entry)) points (now (dash .entry)) answer ⌝ }
+    ensures { λ r. ⌜ now r ≡ outlineOf (now (path .entry)) points (now (dash .entry)) (answerOf answer) ⌝ }
 {
     match answer {
         Dashed::Whole => part(path, points),

@@ -7,6 +7,8 @@ use lib.Ieee.{Float}
 use lib.ListN.{length}
 use denote.Ref.{now}
 use borrow.Author.Tests.{le-leb}
+use Rattle.dash.specs.declared.Dashed.{Dashed}
+use Rattle.dash.specs.Answer.{answerOf}
 use Rattle.dash.specs.Outline.{part, outlineOf}
 use borrow.Author.Needs.{needs}
 use Rattle.dash.proofs.drawn_outline.Statement.{statement}
@@ -34,13 +36,13 @@ part-requires-3 : tie.Need-part-requires-3
 part-requires-3 c κs = search needs
 
 returns : tie.Need-returns
-returns c = c .part .ensures ∙ sym (ap (outlineOf (now (c .before .before .before .before .before .args .path)) (c .before .before .before .before .before .args .points) (now (c .before .before .before .before .before .args .dash))) (c .before .enum-told .given .1))
+returns c = c .part .ensures ∙ sym (ap (λ (d : Dashed). outlineOf (now (c .before .before .before .before .before .args .path)) (c .before .before .before .before .before .args .points) (now (c .before .before .before .before .before .args .dash)) (answerOf d)) (c .before .enum-told .given .1))
 
 returns-2 : tie.Need-returns-2
-returns-2 c = c .part2 .ensures ∙ sym (ap (outlineOf (now (c .before .before .before .before .before .before .args .path)) (c .before .before .before .before .before .before .args .points) (now (c .before .before .before .before .before .before .args .dash))) (c .before .before .answer .given .1))
+returns-2 c = c .part2 .ensures ∙ sym (ap (λ (d : Dashed). outlineOf (now (c .before .before .before .before .before .before .args .path)) (c .before .before .before .before .before .before .args .points) (now (c .before .before .before .before .before .before .args .dash)) (answerOf d)) (c .before .before .answer .given .1))
 
 returns-3 : tie.Need-returns-3
-returns-3 c = c .part3 .ensures ∙ none (now (c .before .before .before .before .before .args .dash)) ∙ sym (ap (outlineOf (now (c .before .before .before .before .before .args .path)) (c .before .before .before .before .before .args .points) (now (c .before .before .before .before .before .args .dash))) (c .before .enum-told2 .given .1))
+returns-3 c = c .part3 .ensures ∙ none (now (c .before .before .before .before .before .args .dash)) ∙ sym (ap (λ (d : Dashed). outlineOf (now (c .before .before .before .before .before .args .path)) (c .before .before .before .before .before .args .points) (now (c .before .before .before .before .before .args .dash)) (answerOf d)) (c .before .enum-told2 .given .1))
 
 pub drawn-outline-spec : {M : Type 1} → statement M
 drawn-outline-spec =
