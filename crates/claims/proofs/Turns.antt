@@ -18,12 +18,10 @@ use Rattle.vec2.specs.Points.{flat}
 use Rattle.path.specs.declared.Segment.{Segment}
 use Rattle.path.specs.Segment.{bytesOf, allPoints}
 use Rattle.claims.specs.Calls.{calls}
-use Rattle.claims.specs.declared.Place.{Place}
-use Rattle.claims.proofs.Places.{left}
 use Rattle.claims.specs.Replay.{Outcome, oneIf, refusedOf, told, replayed}
 
-abbrev pub at : PathBuilder → List ℕ → List Float → Built
-at b vs fs = record { state = b; bytes = vs; floats = fs }
+abbrev pub standing : PathBuilder → List ℕ → List Float → Built
+standing b vs fs = record { state = b; bytes = vs; floats = fs }
 
 -- the calls cs played from b, n calls and k refusals standing before
 unfoldable pub played : Built → List Call → ℕ → ℕ → Outcome
@@ -53,20 +51,20 @@ played-more b c cs n k =
 -- the same, as the builder's own promise tells it
 pub played-one : (b : PathBuilder) (vs : List ℕ) (fs : List Float) (c : Call) (cs : List Call) (n k : ℕ) (r : Reply) (vs' : List ℕ) (fs' : List Float) (m : ℕ) →
     build.outcome r vs' fs' ≡ called b vs fs c → m ≡ oneIf (r .refused) →
-    played (at (r .state) vs' fs') cs (n + 1) (k + m) ≡ played (at b vs fs) (c ∷ cs) n k
+    played (standing (r .state) vs' fs') cs (n + 1) (k + m) ≡ played (standing b vs fs) (c ∷ cs) n k
 played-one b vs fs c cs n k r vs' fs' m e q =
-    ap (λ (x : ℕ). played (at (r .state) vs' fs') cs (n + 1) (k + x)) q
+    ap (λ (x : ℕ). played (standing (r .state) vs' fs') cs (n + 1) (k + x)) q
     ∙ ap (λ (o : build.Outcome). played (build.left o) cs (n + 1) (k + oneIf (o .reply .refused))) e
-    ∙ played-more (at b vs fs) c cs n k
+    ∙ played-more (standing b vs fs) c cs n k
 
--- a turn of the loop
-pub turn : (ks : List ℕ) (ns : List Float) (p d : Place) (c : Call) (b : PathBuilder) (vs vs' : List ℕ) (fs fs' : List Float) (r : Reply) (k m : ℕ) (all : Outcome) →
-    build.outcome r vs' fs' ≡ called b vs fs c → m ≡ oneIf (r .refused) → left ks ns p ≡ c ∷ left ks ns d → d .kind ≡ p .kind + 1 →
-    played (at b vs fs) (left ks ns p) (p .kind) k ≡ all → played (at (r .state) vs' fs') (left ks ns d) (d .kind) (k + m) ≡ all
-turn ks ns p d c b vs vs' fs fs' r k m all e q l i h =
-    ap (λ (n : ℕ). played (at (r .state) vs' fs') (left ks ns d) n (k + m)) i
-    ∙ played-one b vs fs c (left ks ns d) (p .kind) k r vs' fs' m e q
-    ∙ ap (λ (cs : List Call). played (at b vs fs) cs (p .kind) k) (sym l)
+-- a turn of the loop: of the calls cs that are left, it plays the first
+pub turn : (b : PathBuilder) (vs vs' : List ℕ) (fs fs' : List Float) (c d : Call) (cs ds : List Call) (r : Reply) (n k m : ℕ) (all : Outcome) →
+    build.outcome r vs' fs' ≡ called b vs fs c → c ≡ d → m ≡ oneIf (r .refused) → cs ≡ d ∷ ds →
+    played (standing b vs fs) cs n k ≡ all → played (standing (r .state) vs' fs') ds (n + 1) (k + m) ≡ all
+turn b vs vs' fs fs' c d cs ds r n k m all e i q l h =
+    played-one b vs fs c ds n k r vs' fs' m e q
+    ∙ ap (λ (x : Call). played (standing b vs fs) (x ∷ ds) n k) i
+    ∙ ap (λ (x : List Call). played (standing b vs fs) x n k) (sym l)
     ∙ h
 
 -- ---- a call keeps the buffers' lengths

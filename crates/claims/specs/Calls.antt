@@ -1,20 +1,17 @@
 -- An encoded list of builder calls: a byte for each call's kind, and its numbers. Kinds 0 to 4 are the verbs' (move, line, quad, cubic, close),
 -- 5 a conic, 6 and 7 the fill rules non-zero and even-odd, 8 the note. The list ends at its last byte, at a byte over 8, or where fewer numbers
 -- are left than the call takes. Definitions only.
-use Prim.Native.Nat.{ℕ, suc, _+_}
-use mathlib.Core.Bool.{Bool, true, false, cond, _||_}
+use Prim.Native.Nat.{ℕ, suc}
+use mathlib.Core.Bool.{Bool, true, false, _||_}
 use mathlib.Core.List.{List, [], _∷_}
 use lib.ListN.{length, getD, drop}
-use lib.Dec.{leb, ltb}
+use lib.Dec.{ltb}
 use lib.Ieee.{Float, nan}
 use Rattle.vec2.specs.declared.Vec2.{Vec2}
 use Rattle.vec2.specs.Vec2.{vec}
 use Rattle.path.specs.declared.FillRule.the-variants.{NonZero, EvenOdd}
 use Rattle.builder.specs.declared.Call.{Call}
 use Rattle.builder.specs.declared.Call.the-variants.{MoveTo, LineTo, QuadTo, ConicTo, CubicTo, Close, WithFillRule, AsRoundedRect}
-use Rattle.claims.specs.declared.Place.{Place}
-use Rattle.claims.specs.declared.Read.{Read}
-use Rattle.claims.specs.declared.Read.the-variants.{Next, End}
 
 -- the numbers that each kind takes
 abbrev pub table : List ℕ
@@ -62,10 +59,3 @@ unlessEnds false c cs = c ∷ cs
 unfoldable pub calls : List ℕ → List Float → List Call
 calls [] fs = []
 calls (k ∷ ks) fs = unlessEnds (ends k fs) (callOf k fs) (calls ks (drop (taken k) fs))
-
--- one at a time: the call behind so many kinds and numbers
-unfoldable pub callAt : List ℕ → List Float → Place → Read
-callAt ks fs p =
-    let k = getD ks (p .kind) 0 in
-    let rest = drop (p .number) fs in
-    cond (leb (length ks) (p .kind) || ends k rest) End (Next (callOf k rest) (record { kind = p .kind + 1; number = p .number + taken k }))

@@ -1,124 +1,107 @@
 // A list of builder calls, encoded, and played on a fresh builder: the code that demand 3 speaks of.
 ghost use mathlib.Core.Path.{_≡_};
-ghost use Prim.Native.Nat.{_+_, _≤_, _<_};
+ghost use Prim.Native.Nat.{_+_, _≤_};
 ghost use lib.ListN.{length};
-ghost use Rattle.claims.specs.Calls.{taken, number, point, callOf, callAt};
+ghost use Rattle.builder.specs.Build as build;
+ghost use Rattle.builder.specs.Build.{called};
+ghost use Rattle.claims.specs.Calls as calls;
+ghost use Rattle.claims.specs.Calls.{taken, point, callOf};
 ghost use Rattle.claims.specs.Replay.{oneIf, outcome, replayed};
-use builder::Call;
 use builder::PathBuilder;
+use builder::Reply;
 use path::FillRule;
 use path::Rect;
 use vec2::Vec2;
 
-// The numbers that each call takes: move, line, quad, cubic, close, conic, the two fill rules, the note.
-const NUMBERS: [u8; 9] = [2, 2, 4, 6, 0, 5, 0, 0, 5];
-
 // The numbers that a call of this kind takes; none for a byte that is no kind.
 fn numbers_taken(kind: u8) -> usize
-    ensures { λ r. ⌜ (r ≡ taken kind) × (r ≤ 6) ⌝ }
+    ensures { λ r. ⌜ r ≡ taken kind ⌝ }
 {
-    if kind < 9 {
-        return NUMBERS[kind as usize] as usize;
-    }
-    0
-}
-
-// Number j of a call's; nothing reads past the end.
-fn number_at(numbers: &[f32], j: usize) -> f32
-    ensures { λ r. ⌜ r ≡ number (now (numbers .entry)) j ⌝ }
-{
-    if j < numbers.len() {
-        return numbers[j];
-    }
-    0.0 / 0.0
-}
-
-fn first_point(numbers: &[f32]) -> Vec2
-    ensures { λ r. ⌜ r ≡ point (now (numbers .entry)) 0 ⌝ }
-{
-    Vec2 {
-        x: number_at(numbers, 0),
-        y: number_at(numbers, 1),
-    }
-}
-
-fn second_point(numbers: &[f32]) -> Vec2
-    ensures { λ r. ⌜ r ≡ point (now (numbers .entry)) 2 ⌝ }
-{
-    Vec2 {
-        x: number_at(numbers, 2),
-        y: number_at(numbers, 3),
-    }
-}
-
-fn third_point(numbers: &[f32]) -> Vec2
-    ensures { λ r. ⌜ r ≡ point (now (numbers .entry)) 4 ⌝ }
-{
-    Vec2 {
-        x: number_at(numbers, 4),
-        y: number_at(numbers, 5),
-    }
-}
-
-// The call of this kind whose numbers are the first of these.
-fn call_of(kind: u8, numbers: &[f32]) -> Call
-    ensures { λ r. ⌜ r ≡ callOf kind (now (numbers .entry)) ⌝ }
-{
-    let a = first_point(numbers);
-    let b = second_point(numbers);
-    let c = third_point(numbers);
-    let fifth = number_at(numbers, 4);
     match kind {
-        0 => Call::MoveTo(a),
-        1 => Call::LineTo(a),
-        2 => Call::QuadTo(a, b),
-        3 => Call::CubicTo(a, b, c),
-        4 => Call::Close,
-        5 => Call::ConicTo(a, b, fifth),
-        6 => Call::WithFillRule(FillRule::NonZero),
-        7 => Call::WithFillRule(FillRule::EvenOdd),
-        _ => Call::AsRoundedRect(Rect { min: a, max: b }, fifth),
+        0 => 2,
+        1 => 2,
+        2 => 4,
+        3 => 6,
+        5 => 5,
+        8 => 5,
+        _ => 0,
     }
 }
 
-// The kinds and numbers that stand before the next call.
-pub struct Place {
-    pub kind: usize,
-    pub number: usize,
-}
-
-pub enum Read {
-    Next(Call, Place),
-    End,
-}
-
-// The call at a place, and the place behind it; the end, where the kinds end, at a byte that is no kind, or where too few numbers are left.
-fn next_call(kinds: &[u8], numbers: &[f32], p: Place) -> Read
-    requires { ⌜ p .number ≤ length (now numbers) ⌝ }
-    ensures { λ r. ⌜ r ≡ callAt (now (kinds .entry)) (now (numbers .entry)) p ⌝ }
+// The point whose first number is number j.
+fn point_at(numbers: &[f32], j: usize) -> Vec2
+    requires { ⌜ j + 2 ≤ length (now numbers) ⌝ }
+    ensures { λ r. ⌜ r ≡ point (now (numbers .entry)) j ⌝ }
 {
-    let i = p.kind;
-    let at = p.number;
-    if kinds.len() <= i {
-        return Read::End;
+    Vec2 {
+        x: numbers[j],
+        y: numbers[j + 1],
     }
-    let kind = kinds[i];
-    let rest = &numbers[at..];
-    if 8 < kind {
-        return Read::End;
+}
+
+// The answer of a call that takes no buffer.
+fn answer(state: PathBuilder) -> Reply
+    ensures { λ r. ⌜ r ≡ build.answered state ⌝ }
+{
+    Reply {
+        state,
+        quads: 0,
+        refused: 0,
     }
-    let n = numbers_taken(kind);
-    if rest.len() < n {
-        return Read::End;
+}
+
+// Records the note that these numbers tell.
+fn note(b: PathBuilder, numbers: &[f32]) -> Reply
+    requires { ⌜ 5 ≤ length (now numbers) ⌝ }
+    ensures { λ r. ⌜ r ≡ build.answered (build.told b (calls.note (now (numbers .entry)))) ⌝ }
+{
+    let rect = Rect {
+        min: point_at(numbers, 0),
+        max: point_at(numbers, 2),
+    };
+    answer(b.as_rounded_rect(rect, numbers[4]))
+}
+
+// Plays the call of this kind whose numbers are the first of these.
+fn play_kind(
+    b: PathBuilder,
+    kind: u8,
+    numbers: &[f32],
+    verbs: &mut [u8],
+    points: &mut [f32],
+) -> Reply
+    requires { ⌜ (kind ≤ 8) × (taken kind ≤ length (now numbers)) ⌝ }
+    ensures { λ r. ⌜ build.outcome r (now (verbs .exit)) (now (points .exit))
+        ≡ called b (now (verbs .entry)) (now (points .entry)) (callOf kind (now (numbers .entry))) ⌝ }
+{
+    match kind {
+        0 => b.move_to(verbs, points, point_at(numbers, 0)),
+        1 => b.line_to(verbs, points, point_at(numbers, 0)),
+        2 => b.quad_to(verbs, points, point_at(numbers, 0), point_at(numbers, 2)),
+        3 => b.cubic_to(
+            verbs,
+            points,
+            point_at(numbers, 0),
+            point_at(numbers, 2),
+            point_at(numbers, 4),
+        ),
+        4 => b.close(verbs, points),
+        5 => {
+            // Copies of its own, so that the other calls' state need not be in memory for this one, which isn't inlined.
+            let c = b;
+            let reply = c.conic_to(
+                verbs,
+                points,
+                point_at(numbers, 0),
+                point_at(numbers, 2),
+                numbers[4],
+            );
+            reply
+        }
+        6 => answer(b.with_fill_rule(FillRule::NonZero)),
+        7 => answer(b.with_fill_rule(FillRule::EvenOdd)),
+        _ => note(b, numbers),
     }
-    let call = call_of(kind, rest);
-    Read::Next(
-        call,
-        Place {
-            kind: i + 1,
-            number: at + n,
-        },
-    )
 }
 
 // What a list of calls left: the state, how many calls were played, and how many of them were refused.
@@ -140,20 +123,35 @@ pub fn replay(kinds: &[u8], numbers: &[f32], verbs: &mut [u8], points: &mut [f32
         ≡ replayed (now (kinds .entry)) (now (numbers .entry)) (now (verbs .entry)) (now (points .entry)) ⌝ }
 {
     let mut state = PathBuilder::new();
-    let mut p = Place { kind: 0, number: 0 };
+    let mut i: usize = 0;
+    let mut at: usize = 0;
     let mut refused: usize = 0;
-    loop {
-        let step = next_call(kinds, numbers, p);
-        let Read::Next(call, next) = step else {
+    while i < kinds.len() {
+        let kind = kinds[i];
+        let n = numbers_taken(kind);
+        if 8 < kind {
             return Replayed {
                 state,
-                calls: p.kind,
+                calls: i,
                 refused,
             };
-        };
-        let reply = state.play(verbs, points, call);
+        }
+        if numbers.len() - at < n {
+            return Replayed {
+                state,
+                calls: i,
+                refused,
+            };
+        }
+        let reply = play_kind(state, kind, &numbers[at..], verbs, points);
         state = reply.state;
         refused += one_if(reply.refused);
-        p = next;
+        i += 1;
+        at += n;
+    }
+    Replayed {
+        state,
+        calls: i,
+        refused,
     }
 }
