@@ -7,12 +7,12 @@ use native.Mathlib.Nat.{le-trans, le-of-eq, le-of-lt, lt-of-lt-of-le, lt-of-not-
 use native.Mathlib.Omega.{arith}
 use lib.Dec.{T, ltb→lt}
 use lib.Pow.{pow-pos, pow-mono}
-use lib.Ieee.{Float, nan, inf, fin, binary32, up, down, fits, lt, le, ofBits, toBits}
+use lib.Ieee.{Float, nan, inf, fin, binary32, up, down, fits, lt, le, eq, ofBits, toBits}
 use lib.Ieee.Bits.{ofBits-toBits, is-true}
 use lib.Ieee.Exact.{HasValue}
 use lib.Ieee.Fits.{and-l, and-r, up-pos}
 use lib.Ieee.Order.{le-of-values}
-use lib.Ieee.Positive.{positive, between, values-of-le, positive-of-value, value-pos}
+use lib.Ieee.Positive.{positive, above, above-of-le, between, values-of-le, positive-of-value, value-pos}
 use borrow.Author.Tests.{lt-ltb}
 use Rattle.float.specs.Root.{squareRoot}
 use Rattle.float.specs.Pattern.{magnitude}
@@ -205,27 +205,26 @@ untrue : (b : Bool) → (T b → ⊥) → b ≡ false
 untrue true n = absurd (n tt)
 untrue false n = refl
 
+-- the root of an infinity is one, and over every finite float
+infinite-over : (p : Float) → T (positive p) → le (squareRoot binary32 (inf false)) p ≡ false
+unfolding squareRoot le lt eq
+infinite-over nan h = absurd h
+infinite-over (inf s) h = absurd h
+infinite-over (fin true m e) h = absurd h
+infinite-over (fin false m e) h = refl
+
+root-some : (r n : ℕ) → 0 < n → 1024 * n ≤ 1025 * (r * r) → 0 < r
+root-some zero n l h = omega (arith, l, h)
+root-some (suc r) n l h = zero-lt-suc r
+
 -- ---- The test: c and g are the squares of the chord and of the gap, C and G what they measure; P is a thousandth of the chord, M about a millionth of its square.
 
-module _ (c g : Float) (fc : T (fits binary32 c)) (fg : T (fits binary32 g)) (mc : moderate c ≡ true) (mg : moderate g ≡ true) where
+module _ (c : Float) (fc : T (fits binary32 c)) (mc : moderate c ≡ true) where
   pc : T (positive c)
   pc = moderate-positive c mc
 
-  pg : T (positive g)
-  pg = moderate-positive g mg
-
   C : Measured c
   C = measured c fc pc
-
-  G : Measured g
-  G = measured g fg pg
-
-  root-some : (r n : ℕ) → 0 < n → 1024 * n ≤ 1025 * (r * r) → 0 < r
-  root-some zero n l h = omega (arith, l, h)
-  root-some (suc r) n l h = zero-lt-suc r
-
-  G-root : 0 < G .root
-  G-root = root-some (G .root) (G .units * 2 ^ 149) (mul-pos (G .least) (pow-pos 149)) (G .over)
 
   C-root : 0 < C .root
   C-root = root-some (C .root) (C .units * 2 ^ 149) (mul-pos (C .least) (pow-pos 149)) (C .over)
@@ -233,14 +232,14 @@ module _ (c g : Float) (fc : T (fits binary32 c)) (fg : T (fits binary32 g)) (mc
   pr : T (positive (squareRoot binary32 c))
   pr = positive-of-value (squareRoot binary32 c) (C .root) (2 ^ 149) (C .rooted) C-root
 
-  pq : T (positive (squareRoot binary32 g))
-  pq = positive-of-value (squareRoot binary32 g) (G .root) (2 ^ 149) (G .rooted) G-root
-
   P : Near (times thousandth (squareRoot binary32 c)) (2 ^ 33) (8589935 * C .root)
   P =
       let l : 2 ^ 33 ≤ C .root = root-least (C .root) (C .units) (2 ^ 149) (C .least) (C .over) (pow-mono {i = 80} {j = 149} (omega arith)) in
       times-near thousandth (squareRoot binary32 c) 8589935 (2 ^ 33) (C .root) (positive-of-value thousandth 8589935 (2 ^ 33) thousandth-is (omega arith)) pr (pow-pos 33)
       thousandth-is (C .rooted) (omega arith) (omega (arith, l)) (root-most (C .root) (C .units) (2 ^ 149) (2 ^ 277) (C .most) (C .under) (pow-mono {i = 150} {j = 277} (omega arith)))
+
+  P-some : 0 < P .units
+  P-some = omega (arith, C-root, P .over)
 
   module _ (k : Float) (m : ℕ) (is : HasValue k false m (2 ^ 43)) (lo : 8388608 ≤ m) (hi : m < 16777216) where
     M : Near (times k c) (2 ^ 43) (m * C .units)
@@ -257,47 +256,77 @@ module _ (c g : Float) (fc : T (fits binary32 c)) (fg : T (fits binary32 g)) (mc
     pm : T (positive (times k c))
     pm = positive-of-value (times k c) (M .units) (2 ^ 149) (M .value) M-some
 
-    M-over : T (le g (times k c)) → G .units ≤ M .units
-    M-over h = le-of-mul-le-mul-right {k = 2 ^ 149} (values-of-le g (times k c) (G .units) (2 ^ 149) (M .units) (2 ^ 149) pg pm (G .value) (M .value) h) (pow-pos 149)
+  less-from : 8388608 ≤ 8752113
+  less-from = omega arith
 
-    M-under : T (le (times k c) g) → M .units ≤ G .units
-    M-under h = le-of-mul-le-mul-right {k = 2 ^ 149} (values-of-le (times k c) g (M .units) (2 ^ 149) (G .units) (2 ^ 149) pm pg (M .value) (G .value) h) (pow-pos 149)
+  less-to : 8752113 < 16777216
+  less-to = omega arith
 
-  near-roots : T (le g (times littleLess c)) → G .root ≤ P .units
-  near-roots h =
-      let lo : 8388608 ≤ 8752113 = omega arith in
-      let hi : 8752113 < 16777216 = omega arith in
-      let m = M littleLess 8752113 less-is lo hi in
-      let b = million-over (m .units) (C .units) (G .units) (m .under) (M-over littleLess 8752113 less-is lo hi h) in
-      below-roots (C .units) (G .units) (C .root) (G .root) (P .units) (2 ^ 149) (G .under) (C .over) (thousand-over (P .units) (C .root) (P .over)) b
+  more-from : 8388608 ≤ 8840073
+  more-from = omega arith
 
-  far-roots : T (le (times littleMore c) g) → G .root ≤ P .units → ⊥
-  far-roots h =
-      let lo : 8388608 ≤ 8840073 = omega arith in
-      let hi : 8840073 < 16777216 = omega arith in
-      let m = M littleMore 8840073 more-is lo hi in
-      let b = million-under (m .units) (C .units) (G .units) (m .over) (M-under littleMore 8840073 more-is lo hi h) in
-      above-roots (C .units) (G .units) (C .root) (G .root) (P .units) (2 ^ 149) (G .over) (C .under) (thousand-under (P .units) (C .root) (P .under)) b G-root
+  more-to : 8840073 < 16777216
+  more-to = omega arith
 
-  P-some : 0 < P .units
-  P-some = omega (arith, C-root, P .over)
+  module _ (g : Float) (fg : T (fits binary32 g)) (pg : T (positive g)) where
+    G : Measured g
+    G = measured g fg pg
 
-  -- the rounded roots compare as the whole numbers do
-  within-yes : G .root ≤ P .units → within (squareRoot binary32 c) (squareRoot binary32 g) ≡ true
-  within-yes h =
-      let l = le-of-values (squareRoot binary32 g) (times thousandth (squareRoot binary32 c)) (G .root) (2 ^ 149) (P .units) (2 ^ 149) (pow-pos 149) (pow-pos 149) (G .rooted) (P .value) (mul-le-mul-right (2 ^ 149) h) in
-      rw (above-zero (squareRoot binary32 c) pr, is-true (le (squareRoot binary32 g) (times thousandth (squareRoot binary32 c))) l)
+    G-root : 0 < G .root
+    G-root = root-some (G .root) (G .units * 2 ^ 149) (mul-pos (G .least) (pow-pos 149)) (G .over)
 
-  within-no : (G .root ≤ P .units → ⊥) → within (squareRoot binary32 c) (squareRoot binary32 g) ≡ false
-  within-no n =
+    pq : T (positive (squareRoot binary32 g))
+    pq = positive-of-value (squareRoot binary32 g) (G .root) (2 ^ 149) (G .rooted) G-root
+
+    near-roots : T (le g (times littleLess c)) → G .root ≤ P .units
+    near-roots h =
+        let m = M littleLess 8752113 less-is less-from less-to in
+        let p = pm littleLess 8752113 less-is less-from less-to in
+        let o : G .units ≤ m .units = le-of-mul-le-mul-right {k = 2 ^ 149} (values-of-le g (times littleLess c) (G .units) (2 ^ 149) (m .units) (2 ^ 149) pg p (G .value) (m .value) h) (pow-pos 149) in
+        let b = million-over (m .units) (C .units) (G .units) (m .under) o in
+        below-roots (C .units) (G .units) (C .root) (G .root) (P .units) (2 ^ 149) (G .under) (C .over) (thousand-over (P .units) (C .root) (P .over)) b
+
+    far-roots : T (le (times littleMore c) g) → G .root ≤ P .units → ⊥
+    far-roots h =
+        let m = M littleMore 8840073 more-is more-from more-to in
+        let p = pm littleMore 8840073 more-is more-from more-to in
+        let o : m .units ≤ G .units = le-of-mul-le-mul-right {k = 2 ^ 149} (values-of-le (times littleMore c) g (m .units) (2 ^ 149) (G .units) (2 ^ 149) p pg (m .value) (G .value) h) (pow-pos 149) in
+        let b = million-under (m .units) (C .units) (G .units) (m .over) o in
+        above-roots (C .units) (G .units) (C .root) (G .root) (P .units) (2 ^ 149) (G .over) (C .under) (thousand-under (P .units) (C .root) (P .under)) b G-root
+
+    -- the rounded roots compare as the whole numbers do
+    within-yes : G .root ≤ P .units → within (squareRoot binary32 c) (squareRoot binary32 g) ≡ true
+    within-yes h =
+        let l = le-of-values (squareRoot binary32 g) (times thousandth (squareRoot binary32 c)) (G .root) (2 ^ 149) (P .units) (2 ^ 149) (pow-pos 149) (pow-pos 149) (G .rooted) (P .value) (mul-le-mul-right (2 ^ 149) h) in
+        rw (above-zero (squareRoot binary32 c) pr, is-true (le (squareRoot binary32 g) (times thousandth (squareRoot binary32 c))) l)
+
+    within-no : (G .root ≤ P .units → ⊥) → within (squareRoot binary32 c) (squareRoot binary32 g) ≡ false
+    within-no n =
+        let p = times thousandth (squareRoot binary32 c) in
+        let pp : T (positive p) = positive-of-value p (P .units) (2 ^ 149) (P .value) P-some in
+        let no-le : T (le (squareRoot binary32 g) p) → ⊥ =
+        λ (l : T (le (squareRoot binary32 g) p)). n (le-of-mul-le-mul-right {k = 2 ^ 149} (values-of-le (squareRoot binary32 g) p (G .root) (2 ^ 149) (P .units) (2 ^ 149) pq pp (G .rooted) (P .value) l) (pow-pos 149)) in
+        rw (above-zero (squareRoot binary32 c) pr, untrue (le (squareRoot binary32 g) p) no-le)
+
+  -- a gap that is no longer finite is over every thousandth
+  within-never : within (squareRoot binary32 c) (squareRoot binary32 (inf false)) ≡ false
+  within-never =
       let p = times thousandth (squareRoot binary32 c) in
-      let pp : T (positive p) = positive-of-value p (P .units) (2 ^ 149) (P .value) P-some in
-      let no-le : T (le (squareRoot binary32 g) p) → ⊥ =
-      λ (l : T (le (squareRoot binary32 g) p)). n (le-of-mul-le-mul-right {k = 2 ^ 149} (values-of-le (squareRoot binary32 g) p (G .root) (2 ^ 149) (P .units) (2 ^ 149) pq pp (G .rooted) (P .value) l) (pow-pos 149)) in
-      rw (above-zero (squareRoot binary32 c) pr, untrue (le (squareRoot binary32 g) p) no-le)
+      rw (above-zero (squareRoot binary32 c) pr, infinite-over p (positive-of-value p (P .units) (2 ^ 149) (P .value) P-some))
 
-  pub clear-near : le g (times littleLess c) ≡ true → true ≡ within (squareRoot binary32 c) (squareRoot binary32 g)
-  clear-near h = sym (within-yes (near-roots (subst T (sym h) tt)))
+  far : (g : Float) → T (fits binary32 g) → T (above g) → T (le (times littleMore c) g) → within (squareRoot binary32 c) (squareRoot binary32 g) ≡ false
+  far nan f a h = absurd a
+  far (inf true) f a h = absurd a
+  far (inf false) f a h = within-never
+  far (fin true m e) f a h = absurd a
+  far (fin false m e) f a h = within-no (fin false m e) f a (far-roots (fin false m e) f a h)
 
-  pub clear-far : le (times littleMore c) g ≡ true → false ≡ within (squareRoot binary32 c) (squareRoot binary32 g)
-  clear-far h = sym (within-no (far-roots (subst T (sym h) tt)))
+  pub clear-near : (g : Float) → T (fits binary32 g) → le lowest g ≡ true → le g (times littleLess c) ≡ true → true ≡ within (squareRoot binary32 c) (squareRoot binary32 g)
+  clear-near g f l h =
+      let p = between lowest g (times littleLess c) lowest-positive (pm littleLess 8752113 less-is less-from less-to) (subst T (sym l) tt) (subst T (sym h) tt) in
+      sym (within-yes g f p (near-roots g f p (subst T (sym h) tt)))
+
+  pub clear-far : (g : Float) → T (fits binary32 g) → le (times littleMore c) g ≡ true → false ≡ within (squareRoot binary32 c) (squareRoot binary32 g)
+  clear-far g f h =
+      let t = subst T (sym h) tt in
+      sym (far g f (above-of-le (times littleMore c) g (pm littleMore 8840073 more-is more-from more-to) t) t)

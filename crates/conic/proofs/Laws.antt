@@ -6,12 +6,12 @@ use Prim.Native.Nat.{ℕ, zero, suc, _*_, _^_, _≤_}
 use native.Mathlib.Nat.{pow-suc}
 use native.Mathlib.Omega.{arith}
 use lib.Pow.{pow-pos}
-use lib.ListN.{length, length-append}
+use lib.ListN.{length, replicate, length-append}
 use lib.Ieee.{Float}
 use Rattle.vec2.specs.declared.Vec2.{Vec2}
 use Rattle.path.specs.declared.Segment.{Segment}
 use Rattle.path.specs.declared.Segment.the-variants.{Quad}
-use Rattle.path.specs.Segment.{allPoints}
+use Rattle.path.specs.Segment.{bytesOf, allPoints}
 use Rattle.conic.specs.Conic.{near, leftOf, rightOf, middle, halfWeight, split, quads}
 
 -- ---- quads and nothing else, the last of them ending at t
@@ -55,6 +55,13 @@ some-quads t qs (more c p rs h) = omega arith
 two-points : (t : Vec2) (qs : List Segment) → Quads t qs → length (allPoints qs) ≡ 2 * length qs
 two-points t qs (one c) = refl
 two-points t qs (more c p rs h) = omega (arith, two-points t rs h)
+
+all-twos : (t : Vec2) (qs : List Segment) → Quads t qs → bytesOf qs ≡ replicate (length qs) 2
+all-twos t qs (one c) = refl
+all-twos t qs (more c p rs h) = ap (λ (l : List ℕ). 2 ∷ l) (all-twos t rs h)
+
+pub quads-bytes : (a c t : Vec2) (w : Float) → bytesOf (quads a c t w) ≡ replicate (length (quads a c t w)) 2
+quads-bytes a c t w = all-twos t (quads a c t w) (quads-quads a c t w)
 
 pub quads-least : (a c t : Vec2) (w : Float) → 1 ≤ length (quads a c t w)
 quads-least a c t w = some-quads t (quads a c t w) (quads-quads a c t w)

@@ -1,26 +1,33 @@
--- The weights of the levels: made one from the other (`levels-six`), and read one level down (`levels-first`, `levels-next`). Assumes nothing.
-use mathlib.Core.Path.{_≡_, sym, ap, _∙_}
-use mathlib.Core.Bool.{true, false, true≢false}
+-- The weights of the levels: made one from the other (`levels-six`), none given (`levels-none`), those of a quarter of a circle (`levels-quarter`),
+-- and read one level down (`levels-first`, `levels-next`, `levels-left`). Assumes nothing.
+use mathlib.Core.Path.{_≡_, refl, sym, ap, _∙_}
+use mathlib.Core.Bool.{Bool, true, false, cond, true≢false}
 use mathlib.Core.List.{List, [], _∷_}
 use Prim.Native.Nat.{ℕ, zero, suc, _-_, _≤_}
 use native.Mathlib.Omega.{arith}
 use lib.ListN.{getD}
-use lib.Ieee.{Float, nan, lt, ofBits}
+use lib.Ieee.{Float, nan, binary32, lt, le, add, sub, mul, ofBits}
 use Rattle.float.specs.Arith.{f0}
-use Rattle.conic.specs.Conic.{halfWeight}
-use Rattle.conic.specs.Lay.{Given, Levels}
+use Rattle.float.specs.Root.{squareRoot}
+use Rattle.float.specs.Small.{abs}
+use Rattle.conic.specs.Conic.{nearOne, halfWeight}
+use Rattle.conic.specs.Lay.{Given, Levels, splitsLeft}
 
 pub given-none : (w : Float) → Given f0 w
 unfolding lt ofBits
 given-none w h = absurd (true≢false (sym h))
 
-below : (b a y : Float) → Given b a → (lt f0 a ≡ true → a ≡ y) → lt f0 b ≡ true → b ≡ halfWeight y
-below b a y g p h = g h .1 ∙ ap halfWeight (p (g h .0))
+-- a weight that is given is that of y's halves and not near 1
+abbrev Is : Float → Float → Type 0
+Is g y = lt f0 g ≡ true → (g ≡ halfWeight y) × (nearOne g ≡ false)
+
+below : (b a y : Float) → Given b a → Is a y → Is b (halfWeight y)
+below b a y g p h = (g h .1 ∙ ap halfWeight (p (g h .0) .0), g h .2)
 
 module _ (w a b c d e f : Float) (ga : Given a w) (gb : Given b a) (gc : Given c b) (gd : Given d c) (ge : Given e d) (gf : Given f e) where
   pub levels-six : Levels 6 w (f ∷ e ∷ d ∷ c ∷ b ∷ a ∷ [])
   levels-six =
-      let one : lt f0 a ≡ true → a ≡ halfWeight w = λ (h : lt f0 a ≡ true). ga h .1 in
+      let one : Is a w = λ (h : lt f0 a ≡ true). (ga h .1, ga h .2) in
       let two = below b a _ gb one in
       let three = below c b _ gc two in
       let four = below d c _ gd three in
@@ -28,10 +35,60 @@ module _ (w a b c d e f : Float) (ga : Given a w) (gb : Given b a) (gc : Given c
       (one, (two, (three, (four, (five, (below f e _ gf five, tt))))))
 
 module _ (w : Float) (ws : List Float) where
-  pub levels-first : (k : ℕ) → 1 ≤ k → Levels k w ws → lt f0 (getD ws (k - 1) nan) ≡ true → getD ws (k - 1) nan ≡ halfWeight w
+  pub levels-first : (k : ℕ) → 1 ≤ k → Levels k w ws → Is (getD ws (k - 1) nan) w
   levels-first zero l h = absurd (omega (arith, l))
   levels-first (suc k) l h = let p : suc k - 1 ≡ k = omega arith in rw p (h .0)
 
   pub levels-next : (k : ℕ) (u : Float) → 1 ≤ k → u ≡ halfWeight w → Levels k w ws → Levels (k - 1) u ws
   levels-next zero u l e h = absurd (omega (arith, l))
   levels-next (suc k) u l e h = let p : suc k - 1 ≡ k = omega arith in rw (p, e) (h .1)
+
+  -- fewer splits ask for fewer levels
+  levels-some : (b : Bool) (k : ℕ) → Levels k w ws → Levels (cond b 0 k) w ws
+  levels-some true k h = tt
+  levels-some false k h = h
+
+  pub levels-left : (k : ℕ) → Levels k w ws → Levels (splitsLeft w k) w ws
+  levels-left k h = levels-some (nearOne w) k h
+
+pub levels-none : (w : Float) → Levels 6 w (f0 ∷ f0 ∷ f0 ∷ f0 ∷ f0 ∷ f0 ∷ [])
+levels-none w = levels-six w f0 f0 f0 f0 f0 f0 (given-none _) (given-none _) (given-none _) (given-none _) (given-none _) (given-none _)
+
+-- ---- a quarter of a circle: the root of a half, and the weights of its levels
+
+abbrev pub quarter : Float
+quarter = ofBits binary32 0x3f35_04f3
+
+abbrev first : Float
+first = ofBits binary32 0x3f6c_835f
+
+abbrev second : Float
+second = ofBits binary32 0x3f7b_14bf
+
+abbrev third : Float
+third = ofBits binary32 0x3f7e_c46d
+
+abbrev fourth : Float
+fourth = ofBits binary32 0x3f7f_b10f
+
+given-first : Given first quarter
+unfolding halfWeight nearOne abs squareRoot ofBits add sub mul lt le
+given-first h = (refl, refl, refl)
+
+given-second : Given second first
+unfolding halfWeight nearOne abs squareRoot ofBits add sub mul lt le
+given-second h = (refl, refl, refl)
+
+given-third : Given third second
+unfolding halfWeight nearOne abs squareRoot ofBits add sub mul lt le
+given-third h = (refl, refl, refl)
+
+given-fourth : Given fourth third
+unfolding halfWeight nearOne abs squareRoot ofBits add sub mul lt le
+given-fourth h = (refl, refl, refl)
+
+abbrev pub quarter-levels : List Float
+quarter-levels = f0 ∷ f0 ∷ fourth ∷ third ∷ second ∷ first ∷ []
+
+pub levels-quarter : Levels 6 quarter quarter-levels
+levels-quarter = levels-six quarter first second third fourth f0 f0 given-first given-second given-third given-fourth (given-none _) (given-none _)

@@ -31,9 +31,16 @@ gap a c t w = (a ⊕ c ⊙ times f2 w ⊕ t) ⊘ times f2 (plus f1 w) ⊖ (a ⊕
 abbrev pub within : Float → Float → Bool
 within chord apart = lt f0 chord && le apart (times thousandth chord)
 
--- |weight − 1| <= 0.001, or the midpoints of conic and quad are near by the chord's measure
+-- |weight − 1| <= 0.001
+unfoldable pub nearOne : Float → Bool
+nearOne w = le (abs (minus w f1)) thousandth
+
+-- the midpoints of conic and quad are near by the chord's measure
+unfoldable pub nearMid : Vec2 → Vec2 → Vec2 → Float → Bool
+nearMid a c t w = within (len (t ⊖ a)) (len (gap a c t w))
+
 unfoldable pub near : Vec2 → Vec2 → Vec2 → Float → Bool
-near a c t w = le (abs (minus w f1)) thousandth || within (len (t ⊖ a)) (len (gap a c t w))
+near a c t w = nearOne w || nearMid a c t w
 
 -- ---- the halves: a, left, middle and middle, right, t, both of the same weight
 

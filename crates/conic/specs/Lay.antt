@@ -1,7 +1,7 @@
 -- A conic's halves as arrays of three points, and quads laid in the buffers. Definitions only.
 use mathlib.Core.Path.{_≡_}
 use Prim.Native.Nat.{ℕ, zero, suc}
-use mathlib.Core.Bool.{Bool, true, _&&_}
+use mathlib.Core.Bool.{Bool, true, false, cond, _&&_}
 use mathlib.Core.List.{List, [], _∷_}
 use lib.ListN.{getD, length}
 use lib.Seq.{sets}
@@ -12,7 +12,7 @@ use Rattle.vec2.specs.Vec2.{vec}
 use Rattle.vec2.specs.Points.{flat}
 use Rattle.path.specs.declared.Segment.{Segment}
 use Rattle.path.specs.Segment.{bytesOf, allPoints}
-use Rattle.conic.specs.Conic.{near, leftOf, rightOf, middle, halfWeight, split}
+use Rattle.conic.specs.Conic.{nearOne, nearMid, near, leftOf, rightOf, middle, halfWeight, split}
 
 -- "a split half is three points in an array"
 abbrev pub Half : Type 0
@@ -21,32 +21,51 @@ Half = List (List Float)
 abbrev pub pointOf : Half → ℕ → Vec2
 pointOf h i = vec (getD (getD h i []) 0 nan) (getD (getD h i []) 1 nan)
 
+-- the control point first, then where the half begins and where it ends
+abbrev pub ctrlOf : Half → Vec2
+ctrlOf h = pointOf h 0
+
+abbrev pub fromOf : Half → Vec2
+fromOf h = pointOf h 1
+
+abbrev pub toOf : Half → Vec2
+toOf h = pointOf h 2
+
 abbrev pub halfOf : Vec2 → Vec2 → Vec2 → Half
-halfOf a c t = (a .x ∷ a .y ∷ []) ∷ (c .x ∷ c .y ∷ []) ∷ (t .x ∷ t .y ∷ []) ∷ []
+halfOf a c t = (c .x ∷ c .y ∷ []) ∷ (a .x ∷ a .y ∷ []) ∷ (t .x ∷ t .y ∷ []) ∷ []
 
 abbrev pub leftHalf : Half → Float → Half
-leftHalf h w = halfOf (pointOf h 0) (leftOf (pointOf h 0) (pointOf h 1) w) (middle (pointOf h 0) (pointOf h 1) (pointOf h 2) w)
+leftHalf h w = halfOf (fromOf h) (leftOf (fromOf h) (ctrlOf h) w) (middle (fromOf h) (ctrlOf h) (toOf h) w)
 
 abbrev pub rightHalf : Half → Float → Half
-rightHalf h w = halfOf (middle (pointOf h 0) (pointOf h 1) (pointOf h 2) w) (rightOf (pointOf h 1) (pointOf h 2) w) (pointOf h 2)
+rightHalf h w = halfOf (middle (fromOf h) (ctrlOf h) (toOf h) w) (rightOf (ctrlOf h) (toOf h) w) (toOf h)
 
--- whether a half that may be split k times more is one quad
+-- whether a half that may be split k times more, and whose weight is not near 1, is one quad
 abbrev pub single : ℕ → Half → Float → Bool
 single zero h w = true
-single (suc k) h w = near (pointOf h 0) (pointOf h 1) (pointOf h 2) w
+single (suc k) h w = nearMid (fromOf h) (ctrlOf h) (toOf h) w
+
+-- how often a half of weight w is still split at most, where its depth allows k times
+abbrev pub splitsLeft : Float → ℕ → ℕ
+splitsLeft w k = cond (nearOne w) 0 k
 
 -- the quads of a half that may be split k times more
 unfoldable pub pieces : ℕ → Half → Float → List Segment
-pieces k h w = split k (near (pointOf h 0) (pointOf h 1) (pointOf h 2) w) (pointOf h 0) (pointOf h 1) (pointOf h 2) w
+pieces k h w = split k (near (fromOf h) (ctrlOf h) (toOf h) w) (fromOf h) (ctrlOf h) (toOf h) w
 
--- g, where it is above 0, is the weight of w's halves
+-- g, where it is above 0, is the weight of w's halves, and not near 1
 abbrev pub Given : Float → Float → Type 0
-Given g w = lt f0 g ≡ true → (lt f0 w ≡ true) × (g ≡ halfWeight w)
+Given g w = lt f0 g ≡ true → (lt f0 w ≡ true) × (g ≡ halfWeight w) × (nearOne g ≡ false)
 
--- Of the k levels below weight w: where ws has a weight above 0 at k − 1, it is that of w's halves, and so on down.
+-- Of the k levels below weight w: where ws has a weight above 0 at k − 1, it is that of w's halves and not near 1, and so on down.
 abbrev pub Levels : ℕ → Float → List Float → Type 0
 Levels zero w ws = Unit
-Levels (suc k) w ws = (lt f0 (getD ws k nan) ≡ true → getD ws k nan ≡ halfWeight w) × Levels k (halfWeight w) ws
+Levels (suc k) w ws = (lt f0 (getD ws k nan) ≡ true → (getD ws k nan ≡ halfWeight w) × (nearOne (getD ws k nan) ≡ false)) × Levels k (halfWeight w) ws
+
+-- the points of the quads have been stored from f on, and r is the number of quads
+pub record Put (qs : List Segment) (r : ℕ) (fs : List Float) (f : ℕ) (fs' : List Float) : Type 0 where
+  pub number : r ≡ length qs
+  pub floats : fs' ≡ sets fs f (flat (allPoints qs))
 
 -- the list of quads has been stored, verbs from v on and floats from f on, and r is its length
 pub record Bent (qs : List Segment) (r : ℕ) (vs : List ℕ) (v : ℕ) (vs' : List ℕ) (fs : List Float) (f : ℕ) (fs' : List Float) : Type 0 where

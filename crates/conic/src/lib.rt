@@ -1,14 +1,18 @@
 // A conic as quads: split in half until it is near a quad, at most 6 deep. A half is three points in an array, by value.
 ghost use mathlib.Core.Path.{_≡_};
 ghost use mathlib.Core.List.{[], _∷_};
-ghost use Prim.Native.Nat.{_+_, _*_, _≤_};
-ghost use lib.ListN.{length};
+ghost use Prim.Native.Nat.{_+_, _-_, _*_, _≤_};
+ghost use lib.ListN.{length, replicate};
+ghost use lib.Seq.{sets};
 ghost use lib.Ieee.{binary32};
 ghost use Rattle.float.specs.Root.{squareRoot};
-ghost use Rattle.conic.specs.Conic.{straight, square, gap, within, near, leftOf, rightOf, middle, halfWeight, quads};
-ghost use Rattle.conic.specs.Lay.{Given, Levels, pointOf, halfOf, leftHalf, rightHalf, moderate, single, pieces, Bent};
+ghost use Rattle.conic.specs.Conic.{straight, square, gap, within, nearOne, nearMid, leftOf, rightOf, middle, halfWeight, quads};
+ghost use Rattle.conic.specs.Lay.{Given, Levels, fromOf, ctrlOf, toOf, halfOf, leftHalf, rightHalf, moderate, single, splitsLeft, pieces, Put, Bent};
 ghost use Rattle.path.specs.declared.Segment.the-variants.{Quad};
 use vec2::Vec2;
+
+// How often a conic is split at most.
+const DEPTH: usize = 6;
 
 // Whether a conic is no curve, and gives one line to its end.
 pub fn is_straight(ctrl: Vec2, to: Vec2, weight: f32) -> bool
@@ -26,25 +30,16 @@ pub fn is_straight(ctrl: Vec2, to: Vec2, weight: f32) -> bool
     !to.is_finite()
 }
 
-// ---- halves
+// ---- halves: the control point first, so that no two points that were stored apart are loaded as one
 
 fn half_of(from: Vec2, ctrl: Vec2, to: Vec2) -> [[f32; 2]; 3]
     ensures { λ r. ⌜ r ≡ halfOf from ctrl to ⌝ }
 {
-    [[from.x, from.y], [ctrl.x, ctrl.y], [to.x, to.y]]
+    [[ctrl.x, ctrl.y], [from.x, from.y], [to.x, to.y]]
 }
 
 fn from_of(h: [[f32; 2]; 3]) -> Vec2
-    ensures { λ r. ⌜ r ≡ pointOf h 0 ⌝ }
-{
-    Vec2 {
-        x: h[0][0],
-        y: h[0][1],
-    }
-}
-
-fn ctrl_of(h: [[f32; 2]; 3]) -> Vec2
-    ensures { λ r. ⌜ r ≡ pointOf h 1 ⌝ }
+    ensures { λ r. ⌜ r ≡ fromOf h ⌝ }
 {
     Vec2 {
         x: h[1][0],
@@ -52,8 +47,17 @@ fn ctrl_of(h: [[f32; 2]; 3]) -> Vec2
     }
 }
 
+fn ctrl_of(h: [[f32; 2]; 3]) -> Vec2
+    ensures { λ r. ⌜ r ≡ ctrlOf h ⌝ }
+{
+    Vec2 {
+        x: h[0][0],
+        y: h[0][1],
+    }
+}
+
 fn to_of(h: [[f32; 2]; 3]) -> Vec2
-    ensures { λ r. ⌜ r ≡ pointOf h 2 ⌝ }
+    ensures { λ r. ⌜ r ≡ toOf h ⌝ }
 {
     Vec2 {
         x: h[2][0],
@@ -152,25 +156,29 @@ fn is_within(chord: f32, gap: f32) -> bool
     ensures { λ r. ⌜ r ≡ within (squareRoot binary32 chord) (squareRoot binary32 gap) ⌝ }
 {
     if is_moderate(chord) {
-        if is_moderate(gap) {
-            if gap <= 0.000000995 * chord {
+        if 0.000001005 * chord <= gap {
+            return false;
+        }
+        if gap <= 0.000000995 * chord {
+            if 1e-30 <= gap {
                 return true;
-            }
-            if 0.000001005 * chord <= gap {
-                return false;
             }
         }
     }
     is_within_by_roots(chord, gap)
 }
 
-// Whether the quad of the same points is near enough.
-fn is_near(from: Vec2, ctrl: Vec2, to: Vec2, weight: f32) -> bool
-    ensures { λ r. ⌜ r ≡ near from ctrl to weight ⌝ }
+// Whether a conic of this weight is a quad, wherever its points are.
+fn is_near_one(weight: f32) -> bool
+    ensures { λ r. ⌜ r ≡ nearOne weight ⌝ }
 {
-    if float::abs(weight - 1.0) <= 0.001 {
-        return true;
-    }
+    float::abs(weight - 1.0) <= 0.001
+}
+
+// Whether the quad of the same points is near enough, by the midpoints.
+fn is_near(from: Vec2, ctrl: Vec2, to: Vec2, weight: f32) -> bool
+    ensures { λ r. ⌜ r ≡ nearMid from ctrl to weight ⌝ }
+{
     let chord = square_of(to.sub(from));
     let gap = square_of(mid_gap(from, ctrl, to, weight));
     is_within(chord, gap)
@@ -186,33 +194,20 @@ fn is_quad(h: [[f32; 2]; 3], weight: f32, k: usize) -> bool
     is_near(from_of(h), ctrl_of(h), to_of(h), weight)
 }
 
-// How many quads a half gives that may be split k times more: 6 minus its depth.
-fn count(h: [[f32; 2]; 3], weight: f32, k: usize) -> usize
-    requires { ⌜ k ≤ 6 ⌝ }
-    ensures { λ r. ⌜ r ≡ length (pieces k h weight) ⌝ }
+// How often a conic of this weight may still be split, where its depth allows k times.
+fn splits_left(weight: f32, k: usize) -> usize
+    ensures { λ r. ⌜ r ≡ splitsLeft weight k ⌝ }
 {
-    if is_quad(h, weight, k) {
-        return 1;
-    }
-    let u = split_weight(weight);
-    count(left_half(h, weight), u, k - 1) + count(right_half(h, weight), u, k - 1)
+    if is_near_one(weight) { 0 } else { k }
 }
 
-// How many quads a conic gives.
-pub fn count_quads(from: Vec2, ctrl: Vec2, to: Vec2, weight: f32) -> usize
-    ensures { λ r. ⌜ (r ≡ length (quads from ctrl to weight)) × (1 ≤ r) × (r ≤ 64) ⌝ }
-{
-    count(half_of(from, ctrl, to), weight, 6)
-}
-
-// Lays the quad of a half: its verb at v, its floats from f on.
-fn put_quad(h: [[f32; 2]; 3], verbs: &mut [u8], v: usize, floats: &mut [f32], f: usize) -> usize
-    requires { ⌜ (v + 1 ≤ length (now verbs)) × (f + 4 ≤ length (now floats)) ⌝ }
-    ensures { λ r. ⌜ Bent (Quad (pointOf h 1) (pointOf h 2) ∷ []) r (now (verbs .entry)) v (now (verbs .exit)) (now (floats .entry)) f (now (floats .exit)) ⌝ }
+// Lays the points of a half's quad from f on.
+fn put_quad(h: [[f32; 2]; 3], floats: &mut [f32], f: usize) -> usize
+    requires { ⌜ f + 4 ≤ length (now floats) ⌝ }
+    ensures { λ r. ⌜ Put (Quad (ctrlOf h) (toOf h) ∷ []) r (now (floats .entry)) f (now (floats .exit)) ⌝ }
 {
     let ctrl = ctrl_of(h);
     let to = to_of(h);
-    verbs[v] = 2;
     floats[f] = ctrl.x;
     floats[f + 1] = ctrl.y;
     floats[f + 2] = to.x;
@@ -220,26 +215,54 @@ fn put_quad(h: [[f32; 2]; 3], verbs: &mut [u8], v: usize, floats: &mut [f32], f:
     1
 }
 
+// Lays n verbs of quads from v on.
+fn put_verbs(verbs: &mut [u8], v: usize, n: usize)
+    requires { ⌜ v + n ≤ length (now verbs) ⌝ }
+    ensures { λ _. ⌜ now (verbs .exit) ≡ sets (now (verbs .entry)) v (replicate n 2) ⌝ }
+{
+    let mut i: usize = 0;
+    while i < n {
+        verbs[v + i] = 2;
+        i += 1;
+    }
+}
+
 // ---- the weights of each level, so that a root is not taken again at every half of it
 
-// The weight of a conic's halves, above 0; and 0 for a weight so near 1 that few of its halves are split, and for 0.
+// Whether a weight is so far from 1 that most of its halves are split too. Nothing is promised of it: it only saves time.
+fn is_far(weight: f32) -> bool {
+    weight < 0.98 || 1.02 < weight
+}
+
+// The weight of a conic's halves, above 0; and 0 for a weight near 1, or whose halves' is, and for 0.
 fn far_weight(weight: f32) -> f32
     ensures { λ r. ⌜ Given r weight ⌝ }
 {
     if weight > 0.0 {
-        if float::abs(weight - 1.0) > 0.02 {
-            return split_weight(weight);
+        if is_far(weight) {
+            let u = split_weight(weight);
+            if is_near_one(u) {
+                return 0.0;
+            }
+            return u;
         }
     }
     0.0
 }
 
-// From the last level to the first. A small weight gives few quads: its roots are taken as they are asked for.
+// The weight of a quarter of a circle, the root of a half, by its bits; and those of its levels that are not near 1, from the last to the first.
+const QUARTER: u32 = 0x3f35_04f3;
+
+const QUARTER_LEVELS: [f32; 6] = [0.0, 0.0, 0.99879545, 0.9951847, 0.9807853, 0.92387956];
+
+// The weights of the levels, from the last to the first: those of a quarter of a circle, the arc of circles and rounded corners, are known.
 fn level_weights(weight: f32) -> [f32; 6]
     ensures { λ r. ⌜ Levels 6 weight r ⌝ }
 {
-    if weight <= 2.0 {
-        return [0.0; 6];
+    if weight > 0.0 {
+        if f32::to_bits(weight) == QUARTER {
+            return QUARTER_LEVELS;
+        }
     }
     let a = far_weight(weight);
     let b = far_weight(a);
@@ -249,41 +272,53 @@ fn level_weights(weight: f32) -> [f32; 6]
     [far_weight(e), e, d, c, b, a]
 }
 
-// The weight of the halves of a half that may be split k times more.
-fn level_weight(weight: f32, levels: &[f32; 6], k: usize) -> f32
+// A level: the weight of its halves, and how often they may be split.
+struct Level {
+    weight: f32,
+    splits: usize,
+}
+
+// The level below a half that may be split k times more.
+fn next_level(weight: f32, levels: &[f32; 6], k: usize) -> Level
     requires { ⌜ (1 ≤ k) × (k ≤ 6) × Levels k weight (now levels) ⌝ }
-    ensures { λ r. ⌜ r ≡ halfWeight weight ⌝ }
+    ensures { λ r. ⌜ (r .weight ≡ halfWeight weight) × (r .splits ≡ splitsLeft (halfWeight weight) (k - 1)) ⌝ }
 {
     let given = levels[k - 1];
     if given > 0.0 {
-        return given;
+        return Level {
+            weight: given,
+            splits: k - 1,
+        };
     }
-    split_weight(weight)
+    let u = split_weight(weight);
+    Level {
+        weight: u,
+        splits: splits_left(u, k - 1),
+    }
 }
 
-// Lays the quads of a half that may be split k times more, and says how many they are.
+// Lays the quads of a half that may be split k times more, 0 for a weight near 1, and says how many they are.
 fn push_half(
     h: [[f32; 2]; 3],
     weight: f32,
     levels: &[f32; 6],
     k: usize,
-    verbs: &mut [u8],
-    v: usize,
     floats: &mut [f32],
     f: usize,
 ) -> usize
-    requires { ⌜ (k ≤ 6) × (v + length (pieces k h weight) ≤ length (now verbs)) × (f + 4 * length (pieces k h weight) ≤ length (now floats)) × Levels k weight (now levels) ⌝ }
-    ensures { λ r. ⌜ Bent (pieces k h weight) r (now (verbs .entry)) v (now (verbs .exit)) (now (floats .entry)) f (now (floats .exit)) ⌝ }
+    requires { ⌜ (k ≤ 6) × (f + 4 * length (pieces k h weight) ≤ length (now floats)) × (splitsLeft weight k ≡ k) × Levels k weight (now levels) ⌝ }
+    ensures { λ r. ⌜ Put (pieces k h weight) r (now (floats .entry)) f (now (floats .exit)) ⌝ }
 {
     if is_quad(h, weight, k) {
-        return put_quad(h, verbs, v, floats, f);
+        return put_quad(h, floats, f);
     }
-    let u = level_weight(weight, levels, k);
+    let next = next_level(weight, levels, k);
+    let u = next.weight;
+    let j = next.splits;
     let left = left_half(h, weight);
     let right = right_half(h, weight);
-    let j = k - 1;
-    let l = push_half(left, u, levels, j, verbs, v, floats, f);
-    let r = push_half(right, u, levels, j, verbs, v + l, floats, f + 4 * l);
+    let l = push_half(left, u, levels, j, floats, f);
+    let r = push_half(right, u, levels, j, floats, f + 4 * l);
     l + r
 }
 
@@ -303,5 +338,19 @@ pub fn push_conic(
 {
     let levels = level_weights(weight);
     let h = half_of(from, ctrl, to);
-    push_half(h, weight, &levels, 6, verbs, v, floats, f)
+    let k = splits_left(weight, DEPTH);
+    let n = push_half(h, weight, &levels, k, floats, f);
+    put_verbs(verbs, v, n);
+    n
+}
+
+// How many quads a conic gives: they are laid in a buffer of their own.
+pub fn count_quads(from: Vec2, ctrl: Vec2, to: Vec2, weight: f32) -> usize
+    ensures { λ r. ⌜ (r ≡ length (quads from ctrl to weight)) × (1 ≤ r) × (r ≤ 64) ⌝ }
+{
+    let mut floats = [0.0f32; 256];
+    let levels = [0.0f32; 6];
+    let h = half_of(from, ctrl, to);
+    let k = splits_left(weight, DEPTH);
+    push_half(h, weight, &levels, k, &mut floats, 0)
 }

@@ -1,16 +1,9 @@
 -- `conic::is_near` meets its contract. Assumes nothing.
 use mathlib.Core.Path.{_∙_}
-use Rattle.conic.specs.Conic.{near}
+use Rattle.conic.specs.Conic.{nearMid}
 use borrow.Author.Needs.{needs}
 use Rattle.conic.proofs.is_near.Statement.{statement}
 use Rattle.conic.proofs.is_near.Tie as tie
-
-abs-requires : tie.Need-abs-requires
-abs-requires c κs = search needs
-
-returns : tie.Need-returns
-unfolding near
-returns c = rw (← c .before .abs .ensures, c .if1 .taken)
 
 sub-requires : tie.Need-sub-requires
 sub-requires c κs = search needs
@@ -27,21 +20,17 @@ square-of-requires-2 c κs = search needs
 is-within-requires : tie.Need-is-within-requires
 is-within-requires c κs = search needs
 
-returns-2 : tie.Need-returns-2
-unfolding near
-returns-2 c =
-    let d = c .before .before .before .before .before in
-    rw (← d .before .abs .ensures, d .if1 .left) (c .is-within .ensures ∙ rw (c .before .square-of2 .ensures, c .before .before .mid-gap .ensures, c .before .before .before .square-of .ensures, c .before .before .before .before .sub .ensures))
+returns : tie.Need-returns
+unfolding nearMid
+returns c = c .is-within .ensures ∙ rw (c .before .square-of2 .ensures, c .before .before .mid-gap .ensures, c .before .before .before .square-of .ensures, c .before .before .before .before .sub .ensures)
 
 pub is-near-spec : {M : Type 1} → statement M
 is-near-spec =
     tie.close
     (tie.spec
-    abs-requires
-    returns
     sub-requires
     square-of-requires
     mid-gap-requires
     square-of-requires-2
     is-within-requires
-    returns-2)
+    returns)

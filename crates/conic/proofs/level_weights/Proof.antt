@@ -1,11 +1,23 @@
 -- `conic::level_weights` meets its contract. Assumes nothing.
-use Rattle.conic.proofs.Levels.{given-none, levels-six}
+use mathlib.Core.Path.{_≡_, sym, ap, _∙_, subst}
+use lib.Dec.{T}
+use lib.Ieee.{Float, binary32, ofBits}
+use lib.Ieee.Bits.{ofBits-toBits}
+use Rattle.float.proofs.Count.{above-of-test, no-nan}
+use Rattle.conic.specs.Lay.{Levels}
+use Rattle.conic.proofs.Levels.{levels-six, quarter, quarter-levels, levels-quarter}
 use borrow.Author.Needs.{needs}
 use Rattle.conic.proofs.level_weights.Statement.{statement}
 use Rattle.conic.proofs.level_weights.Tie as tie
 
+float-to-bits-if2 : tie.Need-float-to-bits-if2
+float-to-bits-if2 c = no-nan (c .before .args .weight) (above-of-test (c .before .args .weight) (c .if1 .taken))
+
 returns : tie.Need-returns
-returns c = levels-six _ _ _ _ _ _ _ (given-none _) (given-none _) (given-none _) (given-none _) (given-none _) (given-none _)
+returns c =
+    let s = c .before .before in
+    let w : quarter ≡ s .args .weight = ap (ofBits binary32) (sym (c .if2 .taken)) ∙ ofBits-toBits binary32 (s .args .weight) (subst T (sym (s .good .0 .1)) tt) in
+    subst (λ (v : Float). Levels 6 v quarter-levels) w levels-quarter
 
 far-weight-requires : tie.Need-far-weight-requires
 far-weight-requires c κs = search needs
@@ -32,6 +44,7 @@ pub level-weights-spec : {M : Type 1} → statement M
 level-weights-spec =
     tie.close
     (tie.spec
+    float-to-bits-if2
     returns
     far-weight-requires
     far-weight-requires-2

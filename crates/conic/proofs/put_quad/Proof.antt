@@ -14,9 +14,6 @@ ctrl-of-requires c κs = search needs
 to-of-requires : tie.Need-to-of-requires
 to-of-requires c κs = search needs
 
-slice-write-verbs : tie.Need-slice-write-verbs
-slice-write-verbs c = search needs
-
 mul-floats : tie.Need-mul-floats
 mul-floats c = search needs
 
@@ -53,17 +50,13 @@ slice-write-floats-4 c = simp length-set (omega arith)
 same-length : tie.Need-same-length
 same-length c = search needs
 
-same-length-2 : tie.Need-same-length-2
-same-length-2 c = search needs
-
 returns : tie.Need-returns
 returns c =
-    let a = c .before .before .before .before .args in
+    let a = c .before .before .before .args in
     let ctrl = c .before .ctrl-of .result in
     let to = c .to-of .result in
     record {
       number = refl;
-      verbs = refl;
       floats = stored-four (now (a .floats)) (a .f) (ctrl .x) (ctrl .y) (to .x) (to .y) ∙ rw (c .before .ctrl-of .ensures, c .to-of .ensures);
     }
 
@@ -73,7 +66,6 @@ put-quad-spec =
     (tie.spec
     ctrl-of-requires
     to-of-requires
-    slice-write-verbs
     mul-floats
     slice-write-floats
     add-floats
@@ -86,5 +78,4 @@ put-quad-spec =
     mul-floats-4
     slice-write-floats-4
     same-length
-    same-length-2
     returns)
