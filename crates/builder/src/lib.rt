@@ -15,18 +15,18 @@ use path::FillRule;
 use path::Rect;
 use vec2::Vec2;
 
-// Counts first, floats next, small fields last: no padding inside.
+// Counts first, floats next, small fields last: no padding inside. The note's box, which the drawing calls leave alone, is 16 bytes together.
 pub struct PathBuilder {
     pub verbs: usize,
     pub points: usize,
-    pub start_x: f32,
-    pub start_y: f32,
-    pub pen_x: f32,
-    pub pen_y: f32,
     pub min_x: f32,
     pub min_y: f32,
     pub max_x: f32,
     pub max_y: f32,
+    pub start_x: f32,
+    pub start_y: f32,
+    pub pen_x: f32,
+    pub pen_y: f32,
     pub radius: f32,
     pub fill_rule: FillRule,
     pub noted: bool,
