@@ -122,6 +122,8 @@ fn encoded(calls: &[Call]) -> (Vec<u8>, Vec<f32>) {
 fn building(what: &str, calls: &[Call]) {
     let (mut verbs, mut points) = (vec![0u8; 65_536], vec![0f32; 262_144]);
     assert_eq!(played(calls, &mut verbs, &mut points), 0);
+    let laid = built(calls).build();
+    assert!(laid.points().iter().flat_map(|p| [p.x, p.y]).zip(&points).all(|(a, b)| a.to_bits() == b.to_bits()));
     let times = best(calls.len(), || drop(black_box(built(black_box(calls)))), || {
         black_box(played(black_box(calls), &mut verbs, &mut points));
     });
@@ -275,15 +277,20 @@ fn main() {
             _ => Call::Line(r.point(100)),
         })
         .collect();
+    let moves: Vec<Call> = (0..20_000).map(|_| Call::Move(r.point(100))).collect();
+    let mut closes = vec![Call::Close; 20_000];
+    closes[0] = Call::Move(r.point(100));
+    building("build: moves", &moves);
     building("build: lines", &lines);
     building("build: quads", &quads);
     building("build: cubics", &cubics);
+    building("build: closes", &closes);
     building("build: mixed", &mixed);
-    let arcs: Vec<Call> = (0..2000).map(|_| Call::Conic(r.point(100), r.point(100), 0.5f32.sqrt())).collect();
-    let sharp: Vec<Call> = (0..1000).map(|_| Call::Conic(r.point(100), r.point(100), 8.3)).collect();
+    for (what, weight) in [("weight 1, one quad each", 1.0), ("weight 0.9", 0.9), ("quarter circles' weight, 0.707", 0.5f32.sqrt()), ("weight 0.5", 0.5), ("weight 8.3", 8.3), ("weight 100", 100.0)] {
+        let conics: Vec<Call> = (0..1000).map(|_| Call::Conic(r.point(100), r.point(100), weight)).collect();
+        building(&format!("conics: {what}"), &conics);
+    }
     let any: Vec<Call> = (0..1000).map(|_| Call::Conic(r.point(100), r.point(100), 0.25 + r.below(64) as f32 / 8.0)).collect();
-    building("conics: arcs, weight 0.707", &arcs);
-    building("conics: weight 8.3", &sharp);
     building("conics: weights 0.25 to 8", &any);
     flattening("flatten: lines", &lines, 0.25);
     flattening("flatten: quads", &quads[..5000], 0.25);
