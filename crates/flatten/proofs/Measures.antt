@@ -2,21 +2,23 @@
 use mathlib.Core.Path.{_≡_}
 use mathlib.Core.List.{List, [], _∷_}
 use Prim.Native.Nat.{ℕ, _+_, _≤_, _<_}
+use native.Mathlib.Nat.{add-zero}
 use native.Mathlib.Numerals.{add-one}
 use native.Mathlib.Omega.{arith}
 use lib.ListN.{length, getD, drop-of-length-le}
 use lib.Ieee.{Float}
 use Rattle.vec2.specs.declared.Vec2.{Vec2}
 use Rattle.path.specs.declared.Segment.{Segment}
-use Rattle.path.specs.declared.Segment.the-variants.{Quad, Cubic}
+use Rattle.path.specs.declared.Segment.the-variants.{Move, Line, Quad, Cubic, Close}
 use Rattle.path.specs.Segment.{isLine, used, segAt}
 use Rattle.path.proofs.Steps.{left, next-left}
 use Rattle.curve.specs.Count.{quadCount, cubicCount}
 use Rattle.curve.proofs.Numbers.{counted}
 use Rattle.flatten.specs.declared.Spot.{Spot}
 use Rattle.flatten.specs.declared.Tally.{Tally}
-use Rattle.flatten.specs.Flatten.{nowhere, after, opens, adds, places, one, curveCount, total, keptStarts, lines, counts, addedClosings, pointsOut, endsOut}
-use Rattle.flatten.specs.Steps.{none, tally, measured, Small}
+use Rattle.flatten.specs.declared.Gauge.{Gauge}
+use Rattle.flatten.specs.Flatten.{nowhere, movedTo, after, opens, adds, places, one, curveCount, total, keptStarts, lines, counts, addedClosings, pointsOut, endsOut}
+use Rattle.flatten.specs.Steps.{none, tally, drawnMore, closedMore, gauged, measured, Small}
 use Rattle.flatten.proofs.Lengths.{count-most, one-most, sum, polylines-are-starts}
 
 -- ---- the loop
@@ -54,6 +56,29 @@ module _ (tol : Float) (w : Spot) (s : Segment) where
   pub count-cubic : (c d p : Vec2) → s ≡ Cubic c d p → (n : ℕ) → n ≡ cubicCount tol (w .pen) c d p → (n ≡ curveCount tol w s) × (n ≤ 1000)
   unfolding places
   count-cubic c d p e n h = (rw (e, h), rw h (counted _ _ .most))
+
+-- ---- a segment more, by its kind
+
+module _ (tol : Float) (g : Gauge) (s : Segment) where
+  pub more-move : (p : Vec2) → s ≡ Move p → (w : Spot) → w ≡ movedTo p → record { sum = g .sum; spot = w } ≡ gauged tol s g
+  unfolding tally after
+  more-move p e w h = rw (e, h) (simp add-zero)
+
+  pub more-line : (p : Vec2) → s ≡ Line p → (r : Gauge) → r ≡ drawnMore g p 1 0 → r ≡ gauged tol s g
+  unfolding tally after
+  more-line p e r h = rw (e, h) (simp add-zero)
+
+  pub more-quad : (c p : Vec2) → s ≡ Quad c p → (n : ℕ) → n ≡ quadCount tol (g .spot .pen) c p → (r : Gauge) → r ≡ drawnMore g p 0 n → r ≡ gauged tol s g
+  unfolding tally after places
+  more-quad c p e n k r h = rw (e, h, k) (simp add-zero)
+
+  pub more-cubic : (c d p : Vec2) → s ≡ Cubic c d p → (n : ℕ) → n ≡ cubicCount tol (g .spot .pen) c d p → (r : Gauge) → r ≡ drawnMore g p 0 n → r ≡ gauged tol s g
+  unfolding tally after places
+  more-cubic c d p e n k r h = rw (e, h, k) (simp add-zero)
+
+  pub more-close : s ≡ Close → (r : Gauge) → r ≡ closedMore g → r ≡ gauged tol s g
+  unfolding tally after
+  more-close e r h = rw (e, h) (simp add-zero)
 
 -- ---- the totals
 

@@ -1,6 +1,7 @@
 -- What the inner functions promise: the measuring pass, and points and ends stored one behind the other. Definitions only.
 use mathlib.Core.Path.{_≡_}
 use Prim.Native.Nat.{ℕ, _+_, _*_, _≤_}
+use mathlib.Core.Bool.{not}
 use mathlib.Core.List.{List, [], _∷_}
 use lib.ListN.{length}
 use lib.Seq.{sets}
@@ -11,7 +12,8 @@ use Rattle.path.specs.declared.Segment.{Segment}
 use Rattle.path.specs.Segment.{isLine}
 use Rattle.flatten.specs.declared.Spot.{Spot}
 use Rattle.flatten.specs.declared.Tally.{Tally}
-use Rattle.flatten.specs.Flatten.{after, one, opens, adds, curveCount}
+use Rattle.flatten.specs.declared.Gauge.{Gauge}
+use Rattle.flatten.specs.Flatten.{drawnTo, closes, closed, after, one, opens, adds, curveCount}
 
 -- ---- the measuring pass
 
@@ -26,6 +28,24 @@ tally tol w s t =
       counts = t .counts + curveCount tol w s;
       closings = t .closings + one (adds w s);
     }
+
+-- the totals so far, and where the flattening stands: with a drawn segment to p more, `line` of a line and n of a curve; with a close; with any segment
+abbrev pub drawnMore : Gauge → Vec2 → ℕ → ℕ → Gauge
+drawnMore g p line n =
+    record {
+      sum = record { starts = g .sum .starts + one (not (g .spot .drawn)); lines = g .sum .lines + line; counts = g .sum .counts + n; closings = g .sum .closings };
+      spot = drawnTo (g .spot) p;
+    }
+
+abbrev pub closedMore : Gauge → Gauge
+closedMore g =
+    record {
+      sum = record { starts = g .sum .starts; lines = g .sum .lines; counts = g .sum .counts; closings = g .sum .closings + one (closes (g .spot)) };
+      spot = closed (g .spot);
+    }
+
+abbrev pub gauged : Float → Segment → Gauge → Gauge
+gauged tol s g = record { sum = tally tol (g .spot) s (g .sum); spot = after (g .spot) s }
 
 unfoldable pub measured : Float → Tally → Spot → List Segment → Tally
 unfolding tally

@@ -5,11 +5,11 @@ ghost use Prim.Native.Nat.{_+_, _*_, _≤_};
 ghost use lib.ListN.{length};
 ghost use lib.Seq.{sets};
 ghost use Rattle.vec2.specs.Points.{flat};
-ghost use Rattle.path.specs.Segment.{isLine, segments};
+ghost use Rattle.path.specs.Segment.{segments};
 ghost use Rattle.path.specs.Check.{usedBy};
 ghost use Rattle.curve.specs.Count.{evalQuad, evalCubic};
-ghost use Rattle.flatten.specs.Flatten.{nowhere, closes, drawnTo, closed, after, opens, adds, stops, one, onlyIf, curveCount, curved, body, writes, pointsOut, endsOut, outcome, refusedBy, flatten, countAt, carriedCount};
-ghost use Rattle.flatten.specs.Steps.{none, tally, measured, Small, Wrote, Ended};
+ghost use Rattle.flatten.specs.Flatten.{nowhere, closes, movedTo, drawnTo, closed, after, opens, adds, stops, one, onlyIf, curveCount, curved, body, writes, pointsOut, endsOut, outcome, refusedBy, flatten, countAt, carriedCount};
+ghost use Rattle.flatten.specs.Steps.{none, drawnMore, closedMore, gauged, measured, Small, Wrote, Ended};
 use path::Cursor;
 use path::Segment;
 use path::Step;
@@ -51,6 +51,12 @@ pub struct Tally {
     pub closings: usize,
 }
 
+// How far the measuring is: the totals so far, and where the flattening stands.
+pub struct Gauge {
+    pub sum: Tally,
+    pub spot: Spot,
+}
+
 // ---- where a flattening stands
 
 fn start_of_path() -> Spot
@@ -78,6 +84,17 @@ fn close_adds(w: Spot) -> bool
         return !last.same(start);
     }
     false
+}
+
+fn move_to(p: Vec2) -> Spot
+    ensures { λ r. ⌜ r ≡ movedTo p ⌝ }
+{
+    Spot {
+        start: p,
+        pen: p,
+        last: p,
+        drawn: false,
+    }
 }
 
 fn drawn_to(w: Spot, p: Vec2) -> Spot
@@ -113,12 +130,7 @@ fn advance(w: Spot, s: Segment) -> Spot
     ensures { λ r. ⌜ r ≡ after w s ⌝ }
 {
     match s {
-        Segment::Move(p) => Spot {
-            start: p,
-            pen: p,
-            last: p,
-            drawn: false,
-        },
+        Segment::Move(p) => move_to(p),
         Segment::Line(p) => drawn_to(w, p),
         Segment::Quad(_, p) => drawn_to(w, p),
         Segment::Cubic(_, _, p) => drawn_to(w, p),
@@ -143,18 +155,6 @@ fn begins(w: Spot, s: Segment) -> bool
         Segment::Line(_) => !w.drawn,
         Segment::Quad(_, _) => !w.drawn,
         Segment::Cubic(_, _, _) => !w.drawn,
-        Segment::Close => false,
-    }
-}
-
-fn is_line(s: Segment) -> bool
-    ensures { λ r. ⌜ r ≡ isLine s ⌝ }
-{
-    match s {
-        Segment::Move(_) => false,
-        Segment::Line(_) => true,
-        Segment::Quad(_, _) => false,
-        Segment::Cubic(_, _, _) => false,
         Segment::Close => false,
     }
 }
@@ -199,23 +199,67 @@ fn curve_count(tolerance: f32, w: Spot, s: Segment) -> usize
     }
 }
 
-// The totals with one segment more.
-fn add_segment(t: Tally, tolerance: f32, w: Spot, s: Segment) -> Tally
-    requires { ⌜ Small 65536 t ⌝ }
-    ensures { λ r. ⌜ r ≡ tally tolerance w s t ⌝ }
+// A drawn segment to p more: `line` of a line, and n of a curve.
+fn add_drawn(g: Gauge, p: Vec2, line: usize, n: usize) -> Gauge
+    requires { ⌜ Small 65536 (g .sum) × (line ≤ 1) × (n ≤ 1000) ⌝ }
+    ensures { λ r. ⌜ r ≡ drawnMore g p line n ⌝ }
 {
-    let opens = begins(w, s);
-    let line = is_line(s);
-    let n = curve_count(tolerance, w, s);
-    let adds = adds_closing(w, s);
-    let a = as_one(opens);
-    let b = as_one(line);
-    let d = as_one(adds);
-    Tally {
-        starts: t.starts + a,
-        lines: t.lines + b,
-        counts: t.counts + n,
-        closings: t.closings + d,
+    let t = g.sum;
+    let w = g.spot;
+    let a = as_one(!w.drawn);
+    Gauge {
+        sum: Tally {
+            starts: t.starts + a,
+            lines: t.lines + line,
+            counts: t.counts + n,
+            closings: t.closings,
+        },
+        spot: drawn_to(w, p),
+    }
+}
+
+// A close more.
+fn add_close(g: Gauge) -> Gauge
+    requires { ⌜ Small 65536 (g .sum) ⌝ }
+    ensures { λ r. ⌜ r ≡ closedMore g ⌝ }
+{
+    let t = g.sum;
+    let w = g.spot;
+    let adds = close_adds(w);
+    let a = as_one(adds);
+    Gauge {
+        sum: Tally {
+            starts: t.starts,
+            lines: t.lines,
+            counts: t.counts,
+            closings: t.closings + a,
+        },
+        spot: close(w),
+    }
+}
+
+// One segment more. Totals and place go by one `match`: with one for each of them the loop takes twice the time.
+fn add_segment(g: Gauge, tolerance: f32, s: Segment) -> Gauge
+    requires { ⌜ Small 65536 (g .sum) ⌝ }
+    ensures { λ r. ⌜ r ≡ gauged tolerance s g ⌝ }
+{
+    let sum = g.sum;
+    let pen = g.spot.pen;
+    match s {
+        Segment::Move(p) => Gauge {
+            sum,
+            spot: move_to(p),
+        },
+        Segment::Line(p) => add_drawn(g, p, 1, 0),
+        Segment::Quad(c, p) => {
+            let n = curve::quad_segment_count(pen, c, p, tolerance);
+            add_drawn(g, p, 0, n as usize)
+        }
+        Segment::Cubic(c, d, p) => {
+            let n = curve::cubic_segment_count(pen, c, d, p, tolerance);
+            add_drawn(g, p, 0, n as usize)
+        }
+        Segment::Close => add_close(g),
     }
 }
 
@@ -224,21 +268,22 @@ fn measure(verbs: &[u8], points: &[f32], tolerance: f32) -> Tally
     requires { ⌜ (length (now verbs) ≤ 65536) × (2 * usedBy (now verbs) ≤ length (now points)) ⌝ }
     ensures { λ r. ⌜ (r ≡ measured tolerance none nowhere (segments (now (verbs .entry)) (now (points .entry)))) × Small 65536 r ⌝ }
 {
-    let mut w = start_of_path();
-    let mut t = Tally {
-        starts: 0,
-        lines: 0,
-        counts: 0,
-        closings: 0,
+    let mut g = Gauge {
+        sum: Tally {
+            starts: 0,
+            lines: 0,
+            counts: 0,
+            closings: 0,
+        },
+        spot: start_of_path(),
     };
     let mut c = Cursor { verb: 0, point: 0 };
     loop {
         let step = path::next(verbs, points, c);
         let Step::Next(s, d) = step else {
-            return t;
+            return g.sum;
         };
-        t = add_segment(t, tolerance, w, s);
-        w = advance(w, s);
+        g = add_segment(g, tolerance, s);
         c = d;
     }
 }

@@ -6,6 +6,9 @@ use Rattle.flatten.proofs.advance.Tie as tie
 enum-known-s : tie.Need-enum-known-s
 enum-known-s c = search needs
 
+move-to-requires : tie.Need-move-to-requires
+move-to-requires c κs = search needs
+
 enum-known-s-2 : tie.Need-enum-known-s-2
 enum-known-s-2 c = search needs
 
@@ -32,7 +35,7 @@ close-requires c κs = search needs
 
 returns : tie.Need-returns
 unfolding after
-returns c = rw (c .before .s .given .1)
+returns c = rw (c .before .before .s .given .1) (c .move-to .ensures)
 
 returns-2 : tie.Need-returns-2
 unfolding after
@@ -55,6 +58,7 @@ advance-spec =
     tie.close
     (tie.spec
     enum-known-s
+    move-to-requires
     enum-known-s-2
     drawn-to-requires
     enum-known-s-3

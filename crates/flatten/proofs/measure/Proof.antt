@@ -1,4 +1,4 @@
-use mathlib.Core.Path.{_≡_, refl, sym, _∙_}
+use mathlib.Core.Path.{_≡_, refl, sym, _∙_, ap}
 use Prim.Native.Nat.{ℕ, _+_, _-_, _*_, _≤_}
 use native.Mathlib.Omega.{arith}
 use lib.ListN.{length, drop}
@@ -15,10 +15,10 @@ use Rattle.flatten.proofs.measure.Statement.{statement}
 use Rattle.flatten.proofs.measure.Tie as tie
 
 abbrev Inv-loop : tie.InvT-loop
-Inv-loop verbs points tolerance w₀ t₀ c₀ w t c = (c .verb ≤ length verbs) × (2 * (c .point + usedBy (drop (c .verb) verbs)) ≤ length points) × Small (c .verb) t × (measured tolerance t w (left verbs points (c .verb) (c .point)) ≡ measured tolerance none nowhere (segments verbs points))
+Inv-loop verbs points tolerance g₀ c₀ g c = (c .verb ≤ length verbs) × (2 * (c .point + usedBy (drop (c .verb) verbs)) ≤ length points) × Small (c .verb) (g .sum) × (measured tolerance (g .sum) (g .spot) (left verbs points (c .verb) (c .point)) ≡ measured tolerance none nowhere (segments verbs points))
 
 abbrev μ-loop : tie.MeasureT-loop
-μ-loop verbs points tolerance w₀ t₀ c₀ w t c = length verbs - c .verb
+μ-loop verbs points tolerance g₀ c₀ g c = length verbs - c .verb
 
 -- the segment that a turn takes
 here : (c : tie.After-known-told Inv-loop μ-loop) →
@@ -46,33 +46,30 @@ enum-told c = search needs
 
 returns : tie.Need-returns Inv-loop μ-loop
 returns c =
-    let l = c .before .before .before .loop in
-    let a = c .before .before .before .before .before .before .before .args in
+    let l = c .before .before .before .before .loop in
+    let a = c .before .before .before .before .before .before .before .before .args in
     let h = l .inv .2 in (
-      sym (measured-none (a .verbs .now) (a .points .now) (l .c .verb) (l .c .point) _ (l .t) (l .w) (over c)) ∙ l .inv .3,
+      sym (measured-none (a .verbs .now) (a .points .now) (l .c .verb) (l .c .point) _ (l .g .sum) (l .g .spot) (over (c .before))) ∙ l .inv .3,
       record { starts = omega arith; lines = omega arith; counts = omega arith; closings = omega arith },
     )
 
 add-segment-requires : tie.Need-add-segment-requires Inv-loop μ-loop
 add-segment-requires c κs = let h = c .before .before .before .before .loop .inv .2 in record { starts = omega arith; lines = omega arith; counts = omega arith; closings = omega arith }
 
-advance-requires : tie.Need-advance-requires Inv-loop μ-loop
-advance-requires c κs = search needs
-
 loop-less : tie.Need-loop-less Inv-loop μ-loop
-loop-less c = let g = here (c .before .before) in rw (g .cursor) (omega (arith, g .inside))
+loop-less c = let g = here (c .before) in rw (g .cursor) (omega (arith, g .inside))
 
 loop-again : tie.Need-loop-again Inv-loop μ-loop
 loop-again c =
-    let l = c .before .before .before .before .before .before .loop in
-    let vs : List ℕ = c .before .before .before .before .before .before .before .before .before .before .args .verbs .now in
-    let g = here (c .before .before) in
-    let te = c .before .add-segment .ensures in
+    let l = c .before .before .before .before .before .loop in
+    let vs : List ℕ = c .before .before .before .before .before .before .before .before .before .args .verbs .now in
+    let g = here (c .before) in
+    let te = c .add-segment .ensures in
     rw (g .cursor) (
       omega (arith, g .inside),
       omega (arith, l .inv .1, used-turn vs (l .c .verb) (g .inside)),
-      small-next _ _ _ _ _ _ (l .inv .2) te,
-      measured-again vs _ (l .c .verb) (l .c .point) _ (l .t) (l .w) _ (g .inside) (l .inv .3) _ (g .segment) _ te _ (c .advance .ensures) _ refl,
+      small-next _ _ _ _ _ _ (l .inv .2) (ap (λ x. x .sum) te),
+      measured-again vs _ (l .c .verb) (l .c .point) _ (l .g .sum) (l .g .spot) _ (g .inside) (l .inv .3) _ (g .segment) _ (ap (λ x. x .sum) te) _ (ap (λ x. x .spot) te) _ refl,
     )
 
 pub measure-spec : {M : Type 1} → statement M
@@ -88,6 +85,5 @@ measure-spec =
     enum-told
     returns
     add-segment-requires
-    advance-requires
     loop-less
     loop-again)
