@@ -1,12 +1,13 @@
 // `dash_path`: a path cut into the drawn pieces of a dash pattern, and `drawn_outline`.
 ghost use mathlib.Core.Path.{_≡_};
 ghost use Prim.Native.Nat.{_+_, _*_, _/_, _%_, _^_, _≤_, _<_};
-ghost use lib.ListN.{length};
+ghost use lib.ListN.{length, drop};
 ghost use Rattle.vec2.specs.Points.{pointsIn};
 ghost use Rattle.path.specs.Check.{badPath};
 ghost use Rattle.pattern.specs.Cycle.{cycleOf};
 ghost use Rattle.walk.specs.Lay.{out, laid, Room};
 ghost use Rattle.walk.specs.Count.{UpTo, itself};
+ghost use Rattle.walk.specs.Lengths.{Kept};
 ghost use Rattle.dash.specs.Ends.{Ordered};
 ghost use Rattle.dash.specs.Answer.{answerOf};
 ghost use Rattle.dash.specs.Dash.{refusal as refusalOf, walked, Cap, cutOutcome, outOutcome, outcome, cutting, dashing};
@@ -69,9 +70,26 @@ fn room(verbs: usize, floats: usize) -> usize
     path::MAX_VERBS
 }
 
+// The lengths from `from` on; none where there are no more.
+fn lengths_from<'a>(lengths: &'a [f32], from: usize) -> &'a [f32]
+    ensures { λ r. ⌜ now r ≡ drop from (now (lengths .entry)) ⌝ }
+{
+    if from < lengths.len() {
+        return &lengths[from..];
+    }
+    &lengths[..0]
+}
+
 // How many verbs the walks of all polylines lay; the count stops over the cap, so that a fine pattern on a long path is refused at once.
-fn count_all(points: &[f32], ends: &[usize], cycle: &[f32], start: Pos, cap: usize) -> usize
-    requires { ⌜ (start .index < length (now cycle)) × (cap < 2 ^ 61) × Ordered (length (now points)) 0 (now ends) ⌝ }
+fn count_all(
+    points: &[f32],
+    lengths: &[f32],
+    ends: &[usize],
+    cycle: &[f32],
+    start: Pos,
+    cap: usize,
+) -> usize
+    requires { ⌜ (start .index < length (now cycle)) × (cap < 2 ^ 61) × Ordered (length (now points)) 0 (now ends) × Kept (now lengths) (now points) ⌝ }
     ensures { λ r. ⌜ UpTo itself cap (length (walked (now (cycle .entry)) start (pointsIn (now (points .entry))) (now (ends .entry)))) r ⌝ }
 {
     let mut from = 0usize;
@@ -81,7 +99,8 @@ fn count_all(points: &[f32], ends: &[usize], cycle: &[f32], start: Pos, cap: usi
         let e = ends[j];
         let a = 2 * from;
         let b = 2 * e;
-        k = walk::count_polyline(&points[a..b], cycle, start, k, cap);
+        let ls = lengths_from(lengths, from);
+        k = walk::count_polyline(&points[a..b], ls, cycle, start, k, cap);
         if cap < k {
             return k;
         }
@@ -94,13 +113,14 @@ fn count_all(points: &[f32], ends: &[usize], cycle: &[f32], start: Pos, cap: usi
 // Walks each polyline in turn, the phase starting anew, and lays what is drawn. Answers how many verbs are laid.
 fn lay_all(
     points: &[f32],
+    lengths: &[f32],
     ends: &[usize],
     cycle: &[f32],
     start: Pos,
     verbs: &mut [u8],
     floats: &mut [f32],
 ) -> usize
-    requires { ⌜ (start .index < length (now cycle)) × Ordered (length (now points)) 0 (now ends)
+    requires { ⌜ (start .index < length (now cycle)) × Ordered (length (now points)) 0 (now ends) × Kept (now lengths) (now points)
         × Room (length (now verbs)) (length (now floats)) (laid (out (now verbs) (now floats) 0) (walked (now cycle) start (pointsIn (now points)) (now ends))) ⌝ }
     ensures { λ r. ⌜ out (now (verbs .exit)) (now (floats .exit)) r
         ≡ laid (out (now (verbs .entry)) (now (floats .entry)) 0) (walked (now (cycle .entry)) start (pointsIn (now (points .entry))) (now (ends .entry))) ⌝ }
@@ -112,14 +132,47 @@ fn lay_all(
         let e = ends[j];
         let a = 2 * from;
         let b = 2 * e;
-        k = walk::lay_polyline(&points[a..b], cycle, start, verbs, floats, k);
+        let ls = lengths_from(lengths, from);
+        k = walk::lay_polyline(&points[a..b], ls, cycle, start, verbs, floats, k);
         from = e;
         j += 1;
     }
     k
 }
 
-// Counts what the polylines give, and lays it where it fits.
+// Counts what the polylines give, and lays it where it fits, by the lengths of the first legs.
+fn cut_by(
+    points: &[f32],
+    lengths: &[f32],
+    ends: &[usize],
+    cycle: &[f32],
+    start: Pos,
+    rule: FillRule,
+    verbs: &mut [u8],
+    floats: &mut [f32],
+) -> Dashed
+    requires { ⌜ (start .index < length (now cycle)) × Ordered (length (now points)) 0 (now ends) × Kept (now lengths) (now points) ⌝ }
+    ensures { λ r. ⌜ cutOutcome (answerOf r) (now (verbs .exit)) (now (floats .exit))
+        ≡ outOutcome (walked (now (cycle .entry)) start (pointsIn (now (points .entry))) (now (ends .entry))) (length (now (points .entry)) / 2) (length (now (ends .entry))) rule (now (verbs .entry)) (now (floats .entry)) ⌝ }
+{
+    let cap = room(verbs.len(), floats.len());
+    let n = count_all(points, lengths, ends, cycle, start, cap);
+    if cap < n {
+        return Dashed::Refused(3);
+    }
+    let m = lay_all(points, lengths, ends, cycle, start, verbs, floats);
+    let o = Outline {
+        verbs: m,
+        points: m,
+        scratch: points.len() / 2,
+        polylines: ends.len(),
+        rule,
+    };
+    Dashed::Cut(o)
+}
+
+// The length of a leg takes a root, so lengths are kept from the counting to the laying: few on a short path, which then does not pay for clearing
+// many. The legs behind those that are kept are measured twice.
 fn cut_all(
     points: &[f32],
     ends: &[usize],
@@ -133,20 +186,14 @@ fn cut_all(
     ensures { λ r. ⌜ cutOutcome (answerOf r) (now (verbs .exit)) (now (floats .exit))
         ≡ outOutcome (walked (now (cycle .entry)) start (pointsIn (now (points .entry))) (now (ends .entry))) (length (now (points .entry)) / 2) (length (now (ends .entry))) rule (now (verbs .entry)) (now (floats .entry)) ⌝ }
 {
-    let cap = room(verbs.len(), floats.len());
-    let n = count_all(points, ends, cycle, start, cap);
-    if cap < n {
-        return Dashed::Refused(3);
+    if points.len() <= 512 {
+        let mut few = [0.0f32; 256];
+        walk::keep_lengths(points, &mut few);
+        return cut_by(points, &few, ends, cycle, start, rule, verbs, floats);
     }
-    let m = lay_all(points, ends, cycle, start, verbs, floats);
-    let o = Outline {
-        verbs: m,
-        points: m,
-        scratch: points.len() / 2,
-        polylines: ends.len(),
-        rule,
-    };
-    Dashed::Cut(o)
+    let mut many = [0.0f32; 8192];
+    walk::keep_lengths(points, &mut many);
+    cut_by(points, &many, ends, cycle, start, rule, verbs, floats)
 }
 
 // Flattens into the scratch, and lays the dashes.

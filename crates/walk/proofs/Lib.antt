@@ -6,3 +6,4 @@ pub mod Legs
 pub mod Counts
 pub mod Lines
 pub mod Runs
+pub mod Lengths

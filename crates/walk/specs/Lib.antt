@@ -5,3 +5,4 @@ pub mod Drawn
 pub mod Lay
 pub mod Count
 pub mod Runs
+pub mod Lengths

@@ -4,8 +4,10 @@ ghost use mathlib.Core.Bool.{false};
 ghost use Prim.Native.Nat.{_+_, _*_, _^_, _≤_, _<_};
 ghost use lib.ListN.{length};
 ghost use Rattle.float.specs.Arith.{f0};
+ghost use Rattle.vec2.specs.Vec2.{_⊖_, len};
 ghost use Rattle.vec2.specs.Points.{pointsIn};
 ghost use Rattle.walk.specs.Walk.{after, turned, pointOn, inside as insideOf, resting as restingOf, rested, place, cutFrom, passed, counts, legOf, walkPolyline};
+ghost use Rattle.walk.specs.Lengths.{Kept, KeptAt};
 ghost use Rattle.walk.specs.Phase.{startOf};
 ghost use Rattle.walk.specs.Drawn.{drawn};
 ghost use Rattle.walk.specs.Lay.{sheet, out, layVerb, stroke, layEvent, layAll, laid, Room};
@@ -151,11 +153,39 @@ fn rested_at(g: Leg, p: Pos, t: f32) -> Pos
     }
 }
 
-fn leg_of(a: Vec2, b: Vec2) -> Leg
+// Works out the lengths of the legs from each point to the next, as many as `kept` takes.
+pub fn keep_lengths(points: &[f32], kept: &mut [f32])
+    ensures { λ _. ⌜ Kept (now (kept .exit)) (now (points .entry)) ⌝ }
+{
+    let mut k = 0usize;
+    while k < kept.len() {
+        if points.len() < 2 * k + 4 {
+            return;
+        }
+        let a = path::point_at(points, k);
+        let b = path::point_at(points, k + 1);
+        kept[k] = b.sub(a).length();
+        k += 1;
+    }
+}
+
+// The length of a way: the one kept at k, or worked out where none is.
+fn length_at(lengths: &[f32], k: usize, way: Vec2) -> f32
+    requires { ⌜ KeptAt (now lengths) k way ⌝ }
+    ensures { λ r. ⌜ r ≡ len way ⌝ }
+{
+    if k < lengths.len() {
+        return lengths[k];
+    }
+    way.length()
+}
+
+fn leg_of(lengths: &[f32], k: usize, a: Vec2, b: Vec2) -> Leg
+    requires { ⌜ KeptAt (now lengths) k (b ⊖ a) ⌝ }
     ensures { λ r. ⌜ r ≡ legOf a b ⌝ }
 {
     let way = b.sub(a);
-    let length = way.length();
+    let length = length_at(lengths, k, way);
     Leg {
         from: a,
         way,
@@ -249,8 +279,15 @@ fn pass_count(cycle: &[f32], g: Leg, w: Walked, cap: usize) -> Walked
 }
 
 // How many verbs are laid once a polyline is walked, `at` before it: no more than counted up to the cap.
-pub fn count_polyline(points: &[f32], cycle: &[f32], start: Pos, at: usize, cap: usize) -> usize
-    requires { ⌜ (start .index < length (now cycle)) × (at ≤ cap) × (cap < 2 ^ 61) ⌝ }
+pub fn count_polyline(
+    points: &[f32],
+    lengths: &[f32],
+    cycle: &[f32],
+    start: Pos,
+    at: usize,
+    cap: usize,
+) -> usize
+    requires { ⌜ (start .index < length (now cycle)) × (at ≤ cap) × (cap < 2 ^ 61) × Kept (now lengths) (now points) ⌝ }
     ensures { λ r. ⌜ UpTo itself cap (at + length (drawn false (walkPolyline (now (cycle .entry)) start (pointsIn (now (points .entry)))))) r ⌝ }
 {
     if points.len() < 2 {
@@ -264,17 +301,19 @@ pub fn count_polyline(points: &[f32], cycle: &[f32], start: Pos, at: usize, cap:
         pos: start,
         tip: Tip { at, down: false },
     };
+    let mut k = 0usize;
     let mut i = 2usize;
     while i + 1 < points.len() {
         let b = Vec2 {
             x: points[i],
             y: points[i + 1],
         };
-        w = pass_count(cycle, leg_of(a, b), w, cap);
+        w = pass_count(cycle, leg_of(lengths, k, a, b), w, cap);
         if cap < w.tip.at {
             return w.tip.at;
         }
         a = b;
+        k += 1;
         i += 2;
     }
     w.tip.at
@@ -376,13 +415,14 @@ fn pass_leg(cycle: &[f32], g: Leg, w: Walked, verbs: &mut [u8], floats: &mut [f3
 // Walks a polyline with the pen up at first, and lays what is drawn behind the first `at` verbs. Answers how many then are laid.
 pub fn lay_polyline(
     points: &[f32],
+    lengths: &[f32],
     cycle: &[f32],
     start: Pos,
     verbs: &mut [u8],
     floats: &mut [f32],
     at: usize,
 ) -> usize
-    requires { ⌜ (start .index < length (now cycle))
+    requires { ⌜ (start .index < length (now cycle)) × Kept (now lengths) (now points)
         × Room (length (now verbs)) (length (now floats)) (laid (out (now verbs) (now floats) at) (drawn false (walkPolyline (now cycle) start (pointsIn (now points))))) ⌝ }
     ensures { λ r. ⌜ out (now (verbs .exit)) (now (floats .exit)) r
         ≡ laid (out (now (verbs .entry)) (now (floats .entry)) at) (drawn false (walkPolyline (now (cycle .entry)) start (pointsIn (now (points .entry))))) ⌝ }
@@ -398,14 +438,16 @@ pub fn lay_polyline(
         pos: start,
         tip: Tip { at, down: false },
     };
+    let mut k = 0usize;
     let mut i = 2usize;
     while i + 1 < points.len() {
         let b = Vec2 {
             x: points[i],
             y: points[i + 1],
         };
-        w = pass_leg(cycle, leg_of(a, b), w, verbs, floats);
+        w = pass_leg(cycle, leg_of(lengths, k, a, b), w, verbs, floats);
         a = b;
+        k += 1;
         i += 2;
     }
     w.tip.at

@@ -14,11 +14,11 @@ leg-is a b w l p q = rw (q, p)
 sub-requires : tie.Need-sub-requires
 sub-requires c κs = search needs
 
-length-requires : tie.Need-length-requires
-length-requires c κs = search needs
+length-at-requires : tie.Need-length-at-requires
+length-at-requires c κs = rw (c .sub .ensures) (c .before .before .pre)
 
 returns : tie.Need-returns
-returns c = leg-is _ _ _ _ (c .before .sub .ensures) (c .length .ensures)
+returns c = leg-is _ _ _ _ (c .before .sub .ensures) (c .length-at .ensures)
 
 pub leg-of-spec : {M : Type 1} → statement M
-leg-of-spec = tie.close (tie.spec sub-requires length-requires returns)
+leg-of-spec = tie.close (tie.spec sub-requires length-at-requires returns)
