@@ -7,3 +7,4 @@ pub mod Counts
 pub mod Lines
 pub mod Runs
 pub mod Lengths
+pub mod Positive

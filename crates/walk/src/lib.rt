@@ -1,9 +1,11 @@
 // The walk of a polyline by a dash cycle: first counted, then laid.
 ghost use mathlib.Core.Path.{_≡_};
-ghost use mathlib.Core.Bool.{false};
+ghost use mathlib.Core.Bool.{false, not, _&&_};
 ghost use Prim.Native.Nat.{_+_, _*_, _^_, _≤_, _<_};
 ghost use lib.ListN.{length};
+ghost use lib.Ieee.{le};
 ghost use Rattle.float.specs.Arith.{f0};
+ghost use Rattle.float.specs.Small.{isFinite};
 ghost use Rattle.vec2.specs.Vec2.{_⊖_, len};
 ghost use Rattle.vec2.specs.Points.{pointsIn};
 ghost use Rattle.walk.specs.Walk.{after, turned, pointOn, inside as insideOf, resting as restingOf, rested, place, cutFrom, passed, counts, legOf, walkPolyline};
@@ -194,12 +196,12 @@ fn leg_of(lengths: &[f32], k: usize, a: Vec2, b: Vec2) -> Leg
     }
 }
 
-// A leg is walked where its length is finite and above 0.
-fn is_walked(g: Leg) -> bool
-    ensures { λ r. ⌜ r ≡ counts g ⌝ }
+// A leg is walked where its length is finite and above 0. The pattern is compared, since the compiler makes more of two comparisons with infinities.
+fn is_walked(length: f32) -> bool
+    ensures { λ r. ⌜ r ≡ (isFinite length && not (le length f0)) ⌝ }
 {
-    if float::is_finite(g.length) {
-        return !(g.length <= 0.0);
+    if 0.0 < length {
+        return f32::to_bits(length) < 0x7f80_0000;
     }
     false
 }
@@ -272,7 +274,7 @@ fn pass_count(cycle: &[f32], g: Leg, w: Walked, cap: usize) -> Walked
     ensures counted { λ r. ⌜ UpTo laidBy cap (tallied (passed (counts g) (now (cycle .entry)) g (w .pos)) (w .tip)) r ⌝ }
     ensures indexed { λ r. ⌜ r .pos .index < length (now (cycle .entry)) ⌝ }
 {
-    if is_walked(g) {
+    if is_walked(g.length) {
         return count_leg(cycle, g, w, cap);
     }
     w
@@ -406,7 +408,7 @@ fn pass_leg(cycle: &[f32], g: Leg, w: Walked, verbs: &mut [u8], floats: &mut [f3
         ≡ layAll (sheet (now (verbs .entry)) (now (floats .entry)) (w .tip)) (passed (counts g) (now (cycle .entry)) g (w .pos) .events) ⌝ }
     ensures indexed { λ r. ⌜ r .pos .index < length (now (cycle .entry)) ⌝ }
 {
-    if is_walked(g) {
+    if is_walked(g.length) {
         return lay_leg(cycle, g, w, verbs, floats);
     }
     w

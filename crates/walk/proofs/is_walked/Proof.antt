@@ -1,19 +1,23 @@
 -- `is_walked` meets its contract. Assumes nothing.
-use mathlib.Core.Path.{_≡_, sym, _∙_}
-use mathlib.Core.Bool.{true, false}
-use Rattle.float.specs.Small.{isFinite}
-use borrow.Author.Needs.{needs}
+use mathlib.Core.Path.{sym, subst}
+use lib.Dec.{T}
+use lib.Ieee.{binary32, fits}
+use Rattle.float.proofs.Count.{above-of-test, none-of-test, no-nan}
+use Rattle.walk.proofs.Positive.{above-walks, none-walks}
 use Rattle.walk.proofs.is_walked.Statement.{statement}
 use Rattle.walk.proofs.is_walked.Tie as tie
 
-is-finite-requires : tie.Need-is-finite-requires
-is-finite-requires c κs = search needs
+held-by : (c : tie.Start) → T (fits binary32 (c .args .length))
+held-by c = subst T (sym (c .good .0 .1)) tt
+
+float-to-bits-result : tie.Need-float-to-bits-result
+float-to-bits-result c = no-nan (c .before .args .length) (above-of-test (c .before .args .length) (c .if1 .taken))
 
 returns : tie.Need-returns
-returns c = let h : isFinite (c .before .before .before .args .g .length) ≡ true = sym (c .before .before .is-finite .ensures) ∙ c .before .if1 .taken in rw h
+returns c = above-walks (c .before .args .length) (held-by (c .before)) (above-of-test (c .before .args .length) (c .if1 .taken))
 
 returns-2 : tie.Need-returns-2
-returns-2 c = let h : isFinite (c .before .before .args .g .length) ≡ false = sym (c .before .is-finite .ensures) ∙ c .if1 .left in rw h
+returns-2 c = none-walks (c .before .args .length) (none-of-test (c .before .args .length) (c .if1 .left))
 
 pub is-walked-spec : {M : Type 1} → statement M
-is-walked-spec = tie.close (tie.spec is-finite-requires returns returns-2)
+is-walked-spec = tie.close (tie.spec float-to-bits-result returns returns-2)
