@@ -13,14 +13,14 @@ use lib.Ieee.{Float}
 use Rattle.path.specs.Check.{maxVerbs, maxPoints, anyOver4, badFirst, badPath, badList, usedBy}
 
 module _ (vs : List ℕ) (i : ℕ) (h : i < length vs) where
-  pub over-found : 4 < getD vs i 0 → true ≡ anyOver4 (drop i vs)
-  over-found g = rw (drop-cons vs i 0 h, lt-ltb 4 (getD vs i 0) g)
+  -- found before i, or from i on
+  pub over-next : (found r : Bool) → r ≡ (found || ltb 4 (getD vs i 0)) → r || anyOver4 (drop (i + 1) vs) ≡ found || anyOver4 (drop i vs)
+  over-next true r e = rw e
+  over-next false r e = rw (e, add-one i, drop-cons vs i 0 h)
 
-  pub over-passed : getD vs i 0 ≤ 4 → anyOver4 (drop (i + 1) vs) ≡ anyOver4 (drop i vs)
-  over-passed g = rw (add-one i, drop-cons vs i 0 h, le-ltb 4 (getD vs i 0) g)
-
-pub over-none : (vs : List ℕ) (i : ℕ) → length vs ≤ i → false ≡ anyOver4 (drop i vs)
-over-none vs i h = rw (drop-of-length-le vs h)
+pub over-none : (vs : List ℕ) (i : ℕ) (found : Bool) → length vs ≤ i → found ≡ (found || anyOver4 (drop i vs))
+over-none vs i true h = refl
+over-none vs i false h = rw (drop-of-length-le vs h)
 
 pub first-none : (vs : List ℕ) → length vs ≡ 0 → false ≡ badFirst vs
 first-none [] h = refl

@@ -1,12 +1,9 @@
 -- A segment read by its verb: what a `match` on the verb shows of `segAt`. Assumes nothing.
-use mathlib.Core.Path.{_≡_, refl, sym, ap, _∙_, subst}
-use mathlib.Core.Logic.{_≢_}
+use mathlib.Core.Path.{_≡_, refl}
 use mathlib.Core.List.{List}
-use Prim.Native.Nat.{ℕ, zero, suc, _+_, _≤_}
-use native.Mathlib.Omega.{arith}
+use Prim.Native.Nat.{ℕ, zero, suc, _+_}
 use lib.Ieee.{Float}
-use Rattle.vec2.specs.Points.{flat, pointsIn, pointAt}
-use Rattle.path.specs.declared.Segment.{Segment}
+use Rattle.vec2.specs.Points.{pointAt}
 use Rattle.path.specs.declared.Segment.the-variants.{Move, Line, Quad, Cubic, Close}
 use Rattle.vec2.specs.declared.Vec2.{Vec2}
 use Rattle.path.specs.Segment.{segAt, used}
@@ -31,19 +28,11 @@ seg-close (suc (suc zero)) fs k a b c d = absurd (c refl)
 seg-close (suc (suc (suc zero))) fs k a b c d = absurd (d refl)
 seg-close (suc (suc (suc (suc v)))) fs k a b c d = refl
 
--- the table: no verb uses more than three, and a byte that is no verb uses none
-pub used-most : (v : ℕ) → used v ≤ 3
-used-most zero = omega arith
-used-most (suc zero) = omega arith
-used-most (suc (suc zero)) = omega arith
-used-most (suc (suc (suc zero))) = omega arith
-used-most (suc (suc (suc (suc zero)))) = omega arith
-used-most (suc (suc (suc (suc (suc v))))) = omega arith
-
-pub used-past : (v : ℕ) → 5 ≤ v → used v ≡ 0
-used-past zero h = absurd (omega arith)
-used-past (suc zero) h = absurd (omega arith)
-used-past (suc (suc zero)) h = absurd (omega arith)
-used-past (suc (suc (suc zero))) h = absurd (omega arith)
-used-past (suc (suc (suc (suc zero)))) h = absurd (omega arith)
-used-past (suc (suc (suc (suc (suc v))))) h = refl
+-- the table: a byte that is no verb uses none
+pub used-past : (v : ℕ) → (v ≡ 0 → ⊥) → (v ≡ 1 → ⊥) → (v ≡ 2 → ⊥) → (v ≡ 3 → ⊥) → (v ≡ 4 → ⊥) → 0 ≡ used v
+used-past zero a b c d e = absurd (a refl)
+used-past (suc zero) a b c d e = absurd (b refl)
+used-past (suc (suc zero)) a b c d e = absurd (c refl)
+used-past (suc (suc (suc zero))) a b c d e = absurd (d refl)
+used-past (suc (suc (suc (suc zero)))) a b c d e = absurd (e refl)
+used-past (suc (suc (suc (suc (suc v))))) a b c d e = refl

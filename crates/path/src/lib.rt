@@ -1,5 +1,6 @@
 // A path: verbs as bytes, each with its points in a buffer of floats, read by a cursor; and the check of a path that is handed in.
 ghost use mathlib.Core.Path.{_≡_};
+ghost use mathlib.Core.Bool.{_||_};
 ghost use Prim.Native.Nat.{_+_, _*_, _≤_, _<_};
 ghost use lib.ListN.{length};
 ghost use Rattle.vec2.specs.Points.{pointAt};
@@ -121,14 +122,19 @@ const STYLES: [[f32; 6]; 9] = [
 
 const STYLE_LENGTHS: [usize; 9] = [0, 2, 2, 2, 4, 6, 1, 3, 2];
 
-// The points that a verb uses; none for a byte that is no verb.
+// The points that a verb uses; none for a byte that is no verb. The table is read at fixed places: the compiler lays it out anew for each read at a
+// place that varies.
 pub fn point_count(verb: u8) -> usize
     ensures { λ r. ⌜ (r ≡ used verb) × (r ≤ 3) ⌝ }
 {
-    if verb < 5 {
-        return POINT_COUNTS[verb as usize] as usize;
+    match verb {
+        0 => POINT_COUNTS[0] as usize,
+        1 => POINT_COUNTS[1] as usize,
+        2 => POINT_COUNTS[2] as usize,
+        3 => POINT_COUNTS[3] as usize,
+        4 => POINT_COUNTS[4] as usize,
+        _ => 0,
     }
-    0
 }
 
 // A line style's row: its intervals are the first `len` of `values`, the others 0.
@@ -152,18 +158,24 @@ pub fn style(number: usize) -> StyleRow
 
 // ---- the path that is handed in
 
+fn either(a: bool, b: bool) -> bool
+    ensures { λ r. ⌜ r ≡ (a || b) ⌝ }
+{
+    a || b
+}
+
+// Every byte is looked at, so that many go at once.
 fn any_over_4(verbs: &[u8]) -> bool
     ensures { λ r. ⌜ r ≡ anyOver4 (now (verbs .entry)) ⌝ }
 {
+    let mut found = false;
     let mut i: usize = 0;
     while i < verbs.len() {
         let v = verbs[i];
-        if 4 < v {
-            return true;
-        }
+        found = either(found, 4 < v);
         i += 1;
     }
-    false
+    found
 }
 
 // The points that the verbs use.
