@@ -1,8 +1,8 @@
 -- The writing pass: points and ends stored one behind the other. Assumes nothing.
-use mathlib.Core.Path.{_≡_, refl, ap, _∙_}
-use mathlib.Core.Bool.{Bool, true, false}
-use mathlib.Core.List.{List, [], _∷_, _++_}
-use Prim.Native.Nat.{ℕ, suc, _+_, _*_, _≤_, _<_}
+use mathlib.Core.Path.{_≡_, refl, sym, ap, _∙_}
+use mathlib.Core.Bool.{Bool, true, false, not}
+use mathlib.Core.List.{List, [], _∷_, _++_, append-nil}
+use Prim.Native.Nat.{ℕ, suc, pred, _+_, _*_, _≤_, _<_}
 use native.Mathlib.Numerals.{add-one}
 use native.Mathlib.Omega.{arith}
 use lib.ListN.{length, getD, drop, drop-of-length-le, length-append}
@@ -12,16 +12,16 @@ use Rattle.vec2.specs.declared.Vec2.{Vec2}
 use Rattle.vec2.specs.Points.{flat}
 use Rattle.vec2.proofs.Points.{flat-append, length-flat, sets-append}
 use Rattle.path.specs.declared.Segment.{Segment}
-use Rattle.path.specs.declared.Segment.the-variants.{Line, Quad, Cubic}
+use Rattle.path.specs.declared.Segment.the-variants.{Move, Line, Quad, Cubic, Close}
 use Rattle.path.specs.Segment.{used, segAt, segments}
 use Rattle.path.specs.Check.{usedBy}
 use Rattle.path.proofs.Steps.{left, next-left, used-turn}
-use Rattle.curve.specs.Count.{quadCount, cubicCount, evalQuad, evalCubic}
+use Rattle.curve.specs.Count.{quadCount, cubicCount, evalQuad, evalCubic, param}
 use Rattle.curve.proofs.Numbers.{counted}
 use Rattle.flatten.specs.declared.Spot.{Spot}
-use Rattle.flatten.specs.Flatten.{after, opens, adds, stops, onlyIf, places, curved, body, writes, written, endings, pointsOut, endsOut}
-use Rattle.flatten.specs.Steps.{Wrote, Ended}
-use Rattle.flatten.proofs.Lengths.{body-length}
+use Rattle.flatten.specs.Flatten.{movedTo, drawnTo, closes, closed, after, stops, onlyIf, places, steps, curved, body, writes, written, endings, pointsOut, endsOut}
+use Rattle.flatten.specs.Steps.{begun, quadPoints, cubicPoints, Wrote, Ended}
+use Rattle.flatten.proofs.Points.{length-steps}
 
 -- ---- one after the other
 
@@ -33,44 +33,6 @@ wrote-two {l} {m} {n} {a} {b} {c} {ps} {qs} p q =
       moved = simp length-append (omega (arith, p .moved, q .moved));
     }
 
--- ---- the body of a segment, by its kind
-
-pub long-line : (tol : Float) (w : Spot) (s : Segment) (p : Vec2) → s ≡ Line p → length (body tol w s) ≡ 1
-unfolding body
-long-line tol w s p e = rw e
-
--- a curve of n lines that writes n points
-pub record Curve (tol : Float) (w : Spot) (s : Segment) (eval : Float → Vec2) (p : Vec2) (n : ℕ) : Type 0 where
-  pub least : 1 ≤ n
-  pub most : n ≤ 1000
-  pub long : length (body tol w s) ≡ n
-  pub is : body tol w s ≡ curved eval n p
-
-module _ (tol : Float) (w : Spot) (s : Segment) where
-  pub a-quad : (c p : Vec2) → s ≡ Quad c p → (n : ℕ) → n ≡ quadCount tol (w .pen) c p → Curve tol w s (evalQuad (w .pen) c p) p n
-  unfolding body places
-  a-quad c p e n h =
-      record {
-        least = rw h (counted _ _ .one);
-        most = rw h (counted _ _ .most);
-        long = body-length tol w s ∙ rw (e, h) (omega arith);
-        is = rw (e, h);
-      }
-
-  pub a-cubic : (c d p : Vec2) → s ≡ Cubic c d p → (n : ℕ) → n ≡ cubicCount tol (w .pen) c d p → Curve tol w s (evalCubic (w .pen) c d p) p n
-  unfolding body places
-  a-cubic c d p e n h =
-      record {
-        least = rw h (counted _ _ .one);
-        most = rw h (counted _ _ .most);
-        long = body-length tol w s ∙ rw (e, h) (omega arith);
-        is = rw (e, h);
-      }
-
-  pub wrote-curve : {eval : Float → Vec2} {p : Vec2} {n : ℕ} → Curve tol w s eval p n → {l m : List Float} {at : ℕ} →
-      m ≡ sets l (2 * at) (flat (curved eval n p)) → Wrote l m at (at + n) (body tol w s)
-  wrote-curve c h = record { stored = h ∙ rw (c .is); moved = rw (c .long) }
-
 -- ---- a whole segment
 
 pub only-wanted : (l m : List Float) (at : ℕ) (b : Bool) (p : Vec2) → b ≡ true → m ≡ sets l (2 * at) (flat (p ∷ [])) → Wrote l m at (at + 1) (onlyIf b p)
@@ -79,15 +41,73 @@ only-wanted l m at b p e h = rw e (record { stored = h; moved = refl })
 pub only-unwanted : (l : List Float) (at : ℕ) (b : Bool) (p : Vec2) → b ≡ false → Wrote l l at at (onlyIf b p)
 only-unwanted l at b p e = rw e (record { stored = refl; moved = omega arith })
 
-module _ (tol : Float) (w : Spot) (s : Segment) (b d : Bool) (eb : b ≡ opens w s) (ed : d ≡ adds w s) where
-  pub long-parts : length (writes tol w s) ≡ length (onlyIf b (w .start)) + length (body tol w s) + length (onlyIf d (w .start))
-  unfolding writes
-  long-parts = rw (eb, ed) (simp length-append)
+pub wrote-begun : (w : Spot) (ps : List Vec2) {l m n : List Float} {a b c : ℕ} → Wrote l m a b (onlyIf (not (w .drawn)) (w .start)) → n ≡ sets m (2 * b) (flat ps) → c ≡ b + length ps → Wrote l n a c (begun w ps)
+wrote-begun w ps p h e = wrote-two p (record { stored = h; moved = e })
 
-  pub wrote-segment : {l l1 l2 l3 : List Float} {n n1 n2 n3 : ℕ} →
-      Wrote l l1 n n1 (onlyIf b (w .start)) → Wrote l1 l2 n1 n2 (body tol w s) → Wrote l2 l3 n2 n3 (onlyIf d (w .start)) → Wrote l l3 n n3 (writes tol w s)
-  unfolding writes
-  wrote-segment p q r = rw (← eb, ← ed) (wrote-two (wrote-two p q) r)
+pub long-begun : (w : Spot) (ps : List Vec2) → length (begun w ps) ≡ length (onlyIf (not (w .drawn)) (w .start)) + length ps
+long-begun w ps = length-append (onlyIf (not (w .drawn)) (w .start)) ps
+
+-- points of a curve of n lines: n of them
+pub record Curve (ps : List Vec2) (eval : Float → Vec2) (p : Vec2) (n : ℕ) : Type 0 where
+  pub least : 1 ≤ n
+  pub most : n ≤ 1000
+  pub long : length ps ≡ n
+  pub is : ps ≡ curved eval n p
+
+long-curved : (eval : Float → Vec2) (n : ℕ) (p : Vec2) → 1 ≤ n → length (curved eval n p) ≡ n
+long-curved eval n p h = omega (arith, h, length-append (steps (λ i. eval (param i n)) 1 (pred n)) (p ∷ []), length-steps (λ i. eval (param i n)) 1 (pred n))
+
+pub a-quad : (tol : Float) (w : Spot) (c p : Vec2) (n : ℕ) → n ≡ quadCount tol (w .pen) c p → Curve (quadPoints tol w c p) (evalQuad (w .pen) c p) p n
+a-quad tol w c p n h = record { least = rw h (counted _ _ .one); most = rw h (counted _ _ .most); long = long-curved (evalQuad (w .pen) c p) (quadCount tol (w .pen) c p) p (counted _ _ .one) ∙ sym h; is = rw h }
+
+pub a-cubic : (tol : Float) (w : Spot) (c d p : Vec2) (n : ℕ) → n ≡ cubicCount tol (w .pen) c d p → Curve (cubicPoints tol w c d p) (evalCubic (w .pen) c d p) p n
+a-cubic tol w c d p n h = record { least = rw h (counted _ _ .one); most = rw h (counted _ _ .most); long = long-curved (evalCubic (w .pen) c d p) (cubicCount tol (w .pen) c d p) p (counted _ _ .one) ∙ sym h; is = rw h }
+
+pub wrote-curve : (w : Spot) {ps : List Vec2} {eval : Float → Vec2} {p : Vec2} {k : ℕ} → Curve ps eval p k → {l m n : List Float} {a b : ℕ} →
+    Wrote l m a b (onlyIf (not (w .drawn)) (w .start)) → n ≡ sets m (2 * b) (flat (curved eval k p)) → Wrote l n a (b + k) (begun w ps)
+wrote-curve w c q h = wrote-begun w _ q (h ∙ rw (c .is)) (rw (c .long))
+
+module _ (tol : Float) (w : Spot) (s : Segment) where
+  pub as-move : (p : Vec2) → s ≡ Move p → writes tol w s ≡ []
+  unfolding writes body
+  as-move p e = rw e
+
+  pub as-line : (p : Vec2) → s ≡ Line p → writes tol w s ≡ begun w (p ∷ [])
+  unfolding writes body
+  as-line p e = rw e (append-nil _)
+
+  pub as-quad : (c p : Vec2) → s ≡ Quad c p → writes tol w s ≡ begun w (quadPoints tol w c p)
+  unfolding writes body places
+  as-quad c p e = rw e (append-nil _)
+
+  pub as-cubic : (c d p : Vec2) → s ≡ Cubic c d p → writes tol w s ≡ begun w (cubicPoints tol w c d p)
+  unfolding writes body places
+  as-cubic c d p e = rw e (append-nil _)
+
+  pub as-close : (b : Bool) → s ≡ Close → b ≡ closes w → writes tol w s ≡ onlyIf b (w .start)
+  unfolding writes body
+  as-close b e h = rw (e, h)
+
+  -- and where it leaves the flattening
+  pub to-move : (p : Vec2) → s ≡ Move p → {r : Spot} → r ≡ movedTo p → r ≡ after w s
+  unfolding after
+  to-move p e h = rw e h
+
+  pub to-line : (p : Vec2) → s ≡ Line p → {r : Spot} → r ≡ drawnTo w p → r ≡ after w s
+  unfolding after
+  to-line p e h = rw e h
+
+  pub to-quad : (c p : Vec2) → s ≡ Quad c p → {r : Spot} → r ≡ drawnTo w p → r ≡ after w s
+  unfolding after
+  to-quad c p e h = rw e h
+
+  pub to-cubic : (c d p : Vec2) → s ≡ Cubic c d p → {r : Spot} → r ≡ drawnTo w p → r ≡ after w s
+  unfolding after
+  to-cubic c d p e h = rw e h
+
+  pub to-close : s ≡ Close → {r : Spot} → r ≡ closed w → r ≡ after w s
+  unfolding after
+  to-close e h = rw e h
 
 -- ---- the writing loop
 

@@ -2,7 +2,7 @@
 use mathlib.Core.Path.{_≡_}
 use Prim.Native.Nat.{ℕ, _+_, _*_, _≤_}
 use mathlib.Core.Bool.{not}
-use mathlib.Core.List.{List, [], _∷_}
+use mathlib.Core.List.{List, [], _∷_, _++_}
 use lib.ListN.{length}
 use lib.Seq.{sets}
 use lib.Ieee.{Float}
@@ -10,10 +10,11 @@ use Rattle.vec2.specs.declared.Vec2.{Vec2}
 use Rattle.vec2.specs.Points.{flat}
 use Rattle.path.specs.declared.Segment.{Segment}
 use Rattle.path.specs.Segment.{isLine}
+use Rattle.curve.specs.Count.{quadCount, cubicCount, evalQuad, evalCubic}
 use Rattle.flatten.specs.declared.Spot.{Spot}
 use Rattle.flatten.specs.declared.Tally.{Tally}
 use Rattle.flatten.specs.declared.Gauge.{Gauge}
-use Rattle.flatten.specs.Flatten.{drawnTo, closes, closed, after, one, opens, adds, curveCount}
+use Rattle.flatten.specs.Flatten.{drawnTo, closes, closed, after, one, opens, adds, onlyIf, curved, curveCount}
 
 -- ---- the measuring pass
 
@@ -60,6 +61,16 @@ pub record Small (n : ℕ) (t : Tally) : Type 0 where
   pub closings : t .closings ≤ n
 
 -- ---- the writing pass
+
+-- a drawn segment's points, behind the polyline's start where that is not written yet
+abbrev pub begun : Spot → List Vec2 → List Vec2
+begun w ps = onlyIf (not (w .drawn)) (w .start) ++ ps
+
+abbrev pub quadPoints : Float → Spot → Vec2 → Vec2 → List Vec2
+quadPoints tol w c p = curved (evalQuad (w .pen) c p) (quadCount tol (w .pen) c p) p
+
+abbrev pub cubicPoints : Float → Spot → Vec2 → Vec2 → Vec2 → List Vec2
+cubicPoints tol w c d p = curved (evalCubic (w .pen) c d p) (cubicCount tol (w .pen) c d p) p
 
 -- points stored from point `at` on, and the place behind them
 pub record Wrote (before left : List Float) (at next : ℕ) (ps : List Vec2) : Type 0 where

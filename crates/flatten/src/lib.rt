@@ -8,8 +8,8 @@ ghost use Rattle.vec2.specs.Points.{flat};
 ghost use Rattle.path.specs.Segment.{segments};
 ghost use Rattle.path.specs.Check.{usedBy};
 ghost use Rattle.curve.specs.Count.{evalQuad, evalCubic};
-ghost use Rattle.flatten.specs.Flatten.{nowhere, closes, movedTo, drawnTo, closed, after, opens, adds, stops, one, onlyIf, curveCount, curved, body, writes, pointsOut, endsOut, outcome, refusedBy, flatten, countAt, carriedCount};
-ghost use Rattle.flatten.specs.Steps.{none, drawnMore, closedMore, gauged, measured, Small, Wrote, Ended};
+ghost use Rattle.flatten.specs.Flatten.{nowhere, closes, movedTo, drawnTo, closed, after, stops, one, onlyIf, curveCount, curved, writes, pointsOut, endsOut, outcome, refusedBy, flatten, countAt, carriedCount};
+ghost use Rattle.flatten.specs.Steps.{none, drawnMore, closedMore, gauged, measured, Small, begun, quadPoints, cubicPoints, Wrote, Ended};
 use path::Cursor;
 use path::Segment;
 use path::Step;
@@ -54,6 +54,12 @@ pub struct Tally {
 // How far the measuring is: the totals so far, and where the flattening stands.
 pub struct Gauge {
     pub sum: Tally,
+    pub spot: Spot,
+}
+
+// How far the writing is: the points that are written, and where the flattening stands.
+pub struct Trace {
+    pub at: usize,
     pub spot: Spot,
 }
 
@@ -144,32 +150,6 @@ fn as_one(b: bool) -> usize
     ensures { λ r. ⌜ (r ≡ one b) × (r ≤ 1) ⌝ }
 {
     if b { 1 } else { 0 }
-}
-
-// Whether a segment makes its polyline begin.
-fn begins(w: Spot, s: Segment) -> bool
-    ensures { λ r. ⌜ r ≡ opens w s ⌝ }
-{
-    match s {
-        Segment::Move(_) => false,
-        Segment::Line(_) => !w.drawn,
-        Segment::Quad(_, _) => !w.drawn,
-        Segment::Cubic(_, _, _) => !w.drawn,
-        Segment::Close => false,
-    }
-}
-
-// Whether a segment adds a closing.
-fn adds_closing(w: Spot, s: Segment) -> bool
-    ensures { λ r. ⌜ r ≡ adds w s ⌝ }
-{
-    match s {
-        Segment::Move(_) => false,
-        Segment::Line(_) => false,
-        Segment::Quad(_, _) => false,
-        Segment::Cubic(_, _, _) => false,
-        Segment::Close => close_adds(w),
-    }
 }
 
 // Whether a segment ends the polyline before it.
@@ -347,43 +327,92 @@ fn write_cubic(out: &mut [f32], at: usize, a: Vec2, c: Vec2, d: Vec2, p: Vec2, n
     put_point(out, at + m as usize, p);
 }
 
-// Writes the inner points of a drawn segment, and its end.
-fn write_body(out: &mut [f32], at: usize, tolerance: f32, w: Spot, s: Segment) -> usize
-    requires { ⌜ 2 * (at + length (body tolerance w s)) ≤ length (now out) ⌝ }
-    ensures { λ r. ⌜ Wrote (now (out .entry)) (now (out .exit)) at r (body tolerance w s) ⌝ }
-{
-    let pen = w.pen;
-    match s {
-        Segment::Move(_) => at,
-        Segment::Line(p) => {
-            put_point(out, at, p);
-            at + 1
-        }
-        Segment::Quad(c, p) => {
-            let n = curve::quad_segment_count(pen, c, p, tolerance);
-            write_quad(out, at, pen, c, p, n as u16);
-            at + n as usize
-        }
-        Segment::Cubic(c, d, p) => {
-            let n = curve::cubic_segment_count(pen, c, d, p, tolerance);
-            write_cubic(out, at, pen, c, d, p, n as u16);
-            at + n as usize
-        }
-        Segment::Close => at,
-    }
-}
-
-// Writes what a segment writes from point `at` on, and says where the next point goes.
-fn write_segment(out: &mut [f32], at: usize, tolerance: f32, w: Spot, s: Segment) -> usize
-    requires { ⌜ 2 * (at + length (writes tolerance w s)) ≤ length (now out) ⌝ }
-    ensures { λ r. ⌜ Wrote (now (out .entry)) (now (out .exit)) at r (writes tolerance w s) ⌝ }
+// Writes a line to p, behind its polyline's start where that is not written yet, and says where the next point goes.
+fn draw_line(out: &mut [f32], at: usize, w: Spot, p: Vec2) -> usize
+    requires { ⌜ 2 * (at + length (begun w (p ∷ []))) ≤ length (now out) ⌝ }
+    ensures { λ r. ⌜ Wrote (now (out .entry)) (now (out .exit)) at r (begun w (p ∷ [])) ⌝ }
 {
     let start = w.start;
-    let opens = begins(w, s);
-    let adds = adds_closing(w, s);
-    let a = put_if(out, at, opens, start);
-    let b = write_body(out, a, tolerance, w, s);
-    put_if(out, b, adds, start)
+    let first = put_if(out, at, !w.drawn, start);
+    put_point(out, first, p);
+    first + 1
+}
+
+// The same for a quad.
+fn draw_quad(out: &mut [f32], at: usize, tolerance: f32, w: Spot, c: Vec2, p: Vec2) -> usize
+    requires { ⌜ 2 * (at + length (begun w (quadPoints tolerance w c p))) ≤ length (now out) ⌝ }
+    ensures { λ r. ⌜ Wrote (now (out .entry)) (now (out .exit)) at r (begun w (quadPoints tolerance w c p)) ⌝ }
+{
+    let start = w.start;
+    let pen = w.pen;
+    let n = curve::quad_segment_count(pen, c, p, tolerance);
+    let a = put_if(out, at, !w.drawn, start);
+    write_quad(out, a, pen, c, p, n as u16);
+    a + n as usize
+}
+
+// The same for a cubic.
+fn draw_cubic(
+    out: &mut [f32],
+    at: usize,
+    tolerance: f32,
+    w: Spot,
+    c: Vec2,
+    d: Vec2,
+    p: Vec2,
+) -> usize
+    requires { ⌜ 2 * (at + length (begun w (cubicPoints tolerance w c d p))) ≤ length (now out) ⌝ }
+    ensures { λ r. ⌜ Wrote (now (out .entry)) (now (out .exit)) at r (begun w (cubicPoints tolerance w c d p)) ⌝ }
+{
+    let start = w.start;
+    let pen = w.pen;
+    let n = curve::cubic_segment_count(pen, c, d, p, tolerance);
+    let a = put_if(out, at, !w.drawn, start);
+    write_cubic(out, a, pen, c, d, p, n as u16);
+    a + n as usize
+}
+
+// Writes what a segment writes from point `at` on. Points and place go by one `match`, as in measuring.
+fn write_segment(out: &mut [f32], at: usize, tolerance: f32, w: Spot, s: Segment) -> Trace
+    requires { ⌜ 2 * (at + length (writes tolerance w s)) ≤ length (now out) ⌝ }
+    ensures { λ r. ⌜ Wrote (now (out .entry)) (now (out .exit)) at (r .at) (writes tolerance w s) × (r .spot ≡ after w s) ⌝ }
+{
+    let start = w.start;
+    match s {
+        Segment::Move(p) => Trace {
+            at,
+            spot: move_to(p),
+        },
+        Segment::Line(p) => {
+            let n = draw_line(out, at, w, p);
+            Trace {
+                at: n,
+                spot: drawn_to(w, p),
+            }
+        }
+        Segment::Quad(c, p) => {
+            let n = draw_quad(out, at, tolerance, w, c, p);
+            Trace {
+                at: n,
+                spot: drawn_to(w, p),
+            }
+        }
+        Segment::Cubic(c, d, p) => {
+            let n = draw_cubic(out, at, tolerance, w, c, d, p);
+            Trace {
+                at: n,
+                spot: drawn_to(w, p),
+            }
+        }
+        Segment::Close => {
+            let adds = close_adds(w);
+            let n = put_if(out, at, adds, start);
+            Trace {
+                at: n,
+                spot: close(w),
+            }
+        }
+    }
 }
 
 // Notes that a polyline ends at n points, if one does, and says where the next note goes.
@@ -415,8 +444,9 @@ fn write_path(verbs: &[u8], points: &[f32], tolerance: f32, out: &mut [f32], end
         };
         let stopped = ends_polyline(w, s);
         m = end_if(ends, m, stopped, at);
-        at = write_segment(out, at, tolerance, w, s);
-        w = advance(w, s);
+        let r = write_segment(out, at, tolerance, w, s);
+        at = r.at;
+        w = r.spot;
         c = d;
     }
 }

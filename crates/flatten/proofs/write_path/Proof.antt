@@ -60,9 +60,6 @@ end-if-requires-2 c κs = let g = here (c .before .before) in turn-ends (c .befo
 write-segment-requires : tie.Need-write-segment-requires Inv-loop μ-loop
 write-segment-requires c κs = let g = here (c .before .before .before .before .before .before) in turn-room (c .before .before .before .before .before .before .before .before .before .before .loop .inv) (g .inside) _ (g .segment)
 
-advance-requires : tie.Need-advance-requires Inv-loop μ-loop
-advance-requires c κs = search needs
-
 loop-less : tie.Need-loop-less Inv-loop μ-loop
 loop-less c = let g = here (c .before .before .before .before .before .before .before .before .before .before) in rw (g .cursor) (omega (arith, g .inside))
 
@@ -71,7 +68,7 @@ loop-again c =
     let g = here (c .before .before .before .before .before .before .before .before .before .before) in
     rw (g .cursor)
     (turn (c .before .before .before .before .before .before .before .before .before .before .before .before .before .before .loop .inv) (g .inside) _ (g .segment) _ (c .before .before .before .before .before .before .before .before .before .ends-polyline .ensures) (c .before .before .before .before .before .before .before .end-if2 .ensures)
-    (c .before .before .before .write-segment .ensures) _ (c .advance .ensures) _ refl)
+    (c .before .before .before .write-segment .ensures .0) _ (c .before .before .before .write-segment .ensures .1) _ refl)
 
 pub write-path-spec : {M : Type 1} → statement M
 write-path-spec =
@@ -91,6 +88,5 @@ write-path-spec =
     ends-polyline-requires
     end-if-requires-2
     write-segment-requires
-    advance-requires
     loop-less
     loop-again)
