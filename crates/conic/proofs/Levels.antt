@@ -5,15 +5,20 @@ use mathlib.Core.Bool.{Bool, true, false, cond, true≢false}
 use mathlib.Core.List.{List, [], _∷_}
 use Prim.Native.Nat.{ℕ, zero, suc, _-_, _≤_}
 use native.Mathlib.Omega.{arith}
-use lib.ListN.{getD}
+use lib.ListN.{getD, set, drop}
+use lib.Seq.{getD-set-other, drop-set-lt}
 use lib.Ieee.{Float, nan, binary32, lt, le, add, sub, mul, ofBits}
 use Rattle.float.specs.Arith.{f0}
 use Rattle.float.specs.Root.{squareRoot}
 use Rattle.float.specs.Small.{abs}
 use Rattle.conic.specs.Conic.{nearOne, halfWeight}
-use Rattle.conic.specs.Lay.{Given, Levels, splitsLeft}
+use Rattle.conic.specs.Lay.{Levels, Kept, splitsLeft}
 
-pub given-none : (w : Float) → Given f0 w
+-- g, where it is above 0, is the weight of w's halves, and not near 1
+abbrev Given : Float → Float → Type 0
+Given g w = lt f0 g ≡ true → (lt f0 w ≡ true) × (g ≡ halfWeight w) × (nearOne g ≡ false)
+
+given-none : (w : Float) → Given f0 w
 unfolding lt ofBits
 given-none w h = absurd (true≢false (sym h))
 
@@ -53,6 +58,57 @@ module _ (w : Float) (ws : List Float) where
 
 pub levels-none : (w : Float) → Levels 6 w (f0 ∷ f0 ∷ f0 ∷ f0 ∷ f0 ∷ f0 ∷ [])
 levels-none w = levels-six w f0 f0 f0 f0 f0 f0 (given-none _) (given-none _) (given-none _) (given-none _) (given-none _) (given-none _)
+
+-- ---- a weight is kept: none, that of the halves, those of the levels below
+
+pub kept-none : (k : ℕ) (w : Float) (ws : List Float) → Levels k w ws → Kept k w ws ws
+kept-none k w ws h = record { below = h; above = refl }
+
+-- a store behind the levels that are asked for
+levels-set : (j : ℕ) (v : Float) (ws : List Float) (p : ℕ) (u : Float) → j ≤ p → Levels j v ws → Levels j v (set ws p u)
+levels-set zero v ws p u l h = tt
+levels-set (suc j) v ws p u l h =
+    let ne : j ≡ p → ⊥ = λ (e : j ≡ p). omega (arith, l, e) in
+    (rw (getD-set-other ws p j u nan ne) (h .0), levels-set j (halfWeight v) ws p u (omega (arith, l)) (h .1))
+
+-- what a store left, where it is above 0: a place behind the end holds nothing
+stored : (ws : List Float) (j : ℕ) (u : Float) → lt f0 (getD (set ws j u) j nan) ≡ true → getD (set ws j u) j nan ≡ u
+unfolding lt ofBits
+stored [] j u t = absurd (true≢false (sym t))
+stored (w ∷ ws) zero u t = refl
+stored (w ∷ ws) (suc j) u t = stored ws j u t
+
+pub kept-one : (k : ℕ) (w u : Float) (ws : List Float) → 1 ≤ k → u ≡ halfWeight w → nearOne u ≡ false → Levels k w ws → Kept k w ws (set ws (k - 1) u)
+kept-one zero w u ws l e n h = absurd (omega (arith, l))
+kept-one (suc j) w u ws l e n h =
+    let p : suc j - 1 ≡ j = omega arith in
+    rw p (record {
+      below = (λ (t : lt f0 (getD (set ws j u) j nan) ≡ true). let q = stored ws j u t in (q ∙ e, rw q n), levels-set j (halfWeight w) ws j u (omega arith) (h .1));
+      above = drop-set-lt (suc j) ws j u (omega arith);
+    })
+
+getD-drop : (l : List Float) (j : ℕ) → getD (drop j l) 0 nan ≡ getD l j nan
+getD-drop [] zero = refl
+getD-drop [] (suc j) = refl
+getD-drop (x ∷ l) zero = refl
+getD-drop (x ∷ l) (suc j) = getD-drop l j
+
+drop-one : (l : List Float) (j : ℕ) → drop 1 (drop j l) ≡ drop (suc j) l
+drop-one [] zero = refl
+drop-one [] (suc j) = refl
+drop-one (x ∷ l) zero = refl
+drop-one (x ∷ l) (suc j) = drop-one l j
+
+pub kept-down : (k : ℕ) (w : Float) {ws ws' ws'' : List Float} → 1 ≤ k → Kept k w ws ws' → Kept (k - 1) (halfWeight w) ws' ws'' → Kept k w ws ws''
+kept-down zero w l p q = absurd (omega (arith, l))
+kept-down (suc j) w {ws} {ws'} {ws''} l p q =
+    let r : suc j - 1 ≡ j = omega arith in
+    let s : Kept j (halfWeight w) ws' ws'' = rw (← r) q in
+    let g = sym (getD-drop ws'' j) ∙ ap (λ (m : List Float). getD m 0 nan) (s .above) ∙ getD-drop ws' j in
+    record {
+      below = (rw g (p .below .0), s .below);
+      above = sym (drop-one ws'' j) ∙ ap (drop 1) (s .above) ∙ drop-one ws' j ∙ p .above;
+    }
 
 -- ---- a quarter of a circle: the root of a half, and the weights of its levels
 

@@ -4,7 +4,8 @@
 --     pieces-few                 at most 64 quads
 --     pieces-quads               the whole conic
 --     stored-four                a quad's floats in the buffer
---     splits-again, pieces-left  a weight near 1 is split no more
+--     splits-again, splits-all, pieces-left  a weight near 1 is split no more
+--     put-one                    the quad of a half that is one
 --     put-two                    the quads of the left half, then those of the right half, are those of the whole
 --     bent-of                    a conic's points and verbs
 -- Assumes nothing.
@@ -70,6 +71,14 @@ left-few false k = omega arith
 
 pub splits-few : (w : Float) (k : ℕ) → splitsLeft w k ≤ k
 splits-few w k = left-few (nearOne w) k
+
+left-all : (b : Bool) (k : ℕ) → 1 ≤ cond b 0 k → cond b 0 k ≡ k
+left-all true k l = absurd (omega (arith, l))
+left-all false k l = refl
+
+-- a half that is split is not of a weight near 1
+pub splits-all : (w : Float) (k : ℕ) → 1 ≤ splitsLeft w k → splitsLeft w k ≡ k
+splits-all w k l = left-all (nearOne w) k l
 
 left-of : (k : ℕ) (b m : Bool) (a c t : Vec2) (w : Float) → split (cond b 0 k) (b || m) a c t w ≡ split k (b || m) a c t w
 unfolding split
@@ -138,6 +147,10 @@ verbs-done l v i n h = let p : n - i ≡ 0 = omega arith in rw p
 stored-more : {A : Type 0} (l : List A) (i : ℕ) (xs : List A) (k : ℕ) (ys : List A) {m n : List A} → m ≡ sets l i xs → n ≡ sets m k ys → k ≡ i + length xs → n ≡ sets l i (xs ++ ys)
 stored-more {A} l i xs k ys p q e =
     q ∙ ap (λ (m : List A). sets m k ys) p ∙ ap (λ (j : ℕ). sets (sets l i xs) j ys) e ∙ sym (sets-append xs ys l i)
+
+-- a half that is one quad
+pub put-one : (k : ℕ) (h : Half) (w : Float) {r : ℕ} {fs : List Float} {f : ℕ} {fs' : List Float} → single k h w ≡ true → Put (Quad (ctrlOf h) (toOf h) ∷ []) r fs f fs' → Put (pieces k h w) r fs f fs'
+put-one k h w e p = rw (pieces-one k h w e) p
 
 -- l quads of the left half, and r quads of the right half behind them
 pub put-two : (ps qs : List Segment) (l r : ℕ) (fs : List Float) (f : ℕ) {fs' fs'' : List Float}

@@ -3,7 +3,7 @@ use mathlib.Core.Path.{_≡_}
 use Prim.Native.Nat.{ℕ, zero, suc}
 use mathlib.Core.Bool.{Bool, true, false, cond, _&&_}
 use mathlib.Core.List.{List, [], _∷_}
-use lib.ListN.{getD, length}
+use lib.ListN.{getD, drop, length}
 use lib.Seq.{sets}
 use lib.Ieee.{Float, nan, binary32, ofBits, lt, le}
 use Rattle.float.specs.Arith.{f0}
@@ -53,14 +53,15 @@ splitsLeft w k = cond (nearOne w) 0 k
 unfoldable pub pieces : ℕ → Half → Float → List Segment
 pieces k h w = split k (near (fromOf h) (ctrlOf h) (toOf h) w) (fromOf h) (ctrlOf h) (toOf h) w
 
--- g, where it is above 0, is the weight of w's halves, and not near 1
-abbrev pub Given : Float → Float → Type 0
-Given g w = lt f0 g ≡ true → (lt f0 w ≡ true) × (g ≡ halfWeight w) × (nearOne g ≡ false)
-
 -- Of the k levels below weight w: where ws has a weight above 0 at k − 1, it is that of w's halves and not near 1, and so on down.
 abbrev pub Levels : ℕ → Float → List Float → Type 0
 Levels zero w ws = Unit
 Levels (suc k) w ws = (lt f0 (getD ws k nan) ≡ true → (getD ws k nan ≡ halfWeight w) × (nearOne (getD ws k nan) ≡ false)) × Levels k (halfWeight w) ws
+
+-- behind a call for weight w with k levels below it: these still hold, and those above them are as they were
+pub record Kept (k : ℕ) (w : Float) (ws ws' : List Float) : Type 0 where
+  pub below : Levels k w ws'
+  pub above : drop k ws' ≡ drop k ws
 
 -- the points of the quads have been stored from f on, and r is the number of quads
 pub record Put (qs : List Segment) (r : ℕ) (fs : List Float) (f : ℕ) (fs' : List Float) : Type 0 where

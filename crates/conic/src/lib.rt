@@ -1,5 +1,6 @@
 // A conic as quads: split in half until it is near a quad, at most 6 deep. A half is three points in an array, by value.
 ghost use mathlib.Core.Path.{_≡_};
+ghost use mathlib.Core.Bool.{false};
 ghost use mathlib.Core.List.{[], _∷_};
 ghost use Prim.Native.Nat.{_+_, _-_, _*_, _≤_};
 ghost use lib.ListN.{length, replicate};
@@ -7,7 +8,7 @@ ghost use lib.Seq.{sets};
 ghost use lib.Ieee.{binary32};
 ghost use Rattle.float.specs.Root.{squareRoot};
 ghost use Rattle.conic.specs.Conic.{straight, square, gap, within, nearOne, nearMid, leftOf, rightOf, middle, halfWeight, quads};
-ghost use Rattle.conic.specs.Lay.{Given, Levels, fromOf, ctrlOf, toOf, halfOf, leftHalf, rightHalf, moderate, single, splitsLeft, pieces, Put, Bent};
+ghost use Rattle.conic.specs.Lay.{Levels, Kept, fromOf, ctrlOf, toOf, halfOf, leftHalf, rightHalf, moderate, single, splitsLeft, pieces, Put, Bent};
 ghost use Rattle.path.specs.declared.Segment.the-variants.{Quad};
 use vec2::Vec2;
 
@@ -227,36 +228,15 @@ fn put_verbs(verbs: &mut [u8], v: usize, n: usize)
     }
 }
 
-// ---- the weights of each level, so that a root is not taken again at every half of it
-
-// Whether a weight is so far from 1 that most of its halves are split too. Nothing is promised of it: it only saves time.
-fn is_far(weight: f32) -> bool {
-    weight < 0.98 || 1.02 < weight
-}
-
-// The weight of a conic's halves, above 0; and 0 for a weight near 1, or whose halves' is, and for 0.
-fn far_weight(weight: f32) -> f32
-    ensures { λ r. ⌜ Given r weight ⌝ }
-{
-    if weight > 0.0 {
-        if is_far(weight) {
-            let u = split_weight(weight);
-            if is_near_one(u) {
-                return 0.0;
-            }
-            return u;
-        }
-    }
-    0.0
-}
+// ---- the weights of the levels, each worked out once: a root takes as long as a half of one
 
 // The weight of a quarter of a circle, the root of a half, by its bits; and those of its levels that are not near 1, from the last to the first.
 const QUARTER: u32 = 0x3f35_04f3;
 
 const QUARTER_LEVELS: [f32; 6] = [0.0, 0.0, 0.99879545, 0.9951847, 0.9807853, 0.92387956];
 
-// The weights of the levels, from the last to the first: those of a quarter of a circle, the arc of circles and rounded corners, are known.
-fn level_weights(weight: f32) -> [f32; 6]
+// The weights of the levels that are known beforehand, from the last to the first: those of a quarter of a circle, the arc of circles and rounded corners.
+fn known_levels(weight: f32) -> [f32; 6]
     ensures { λ r. ⌜ Levels 6 weight r ⌝ }
 {
     if weight > 0.0 {
@@ -264,12 +244,7 @@ fn level_weights(weight: f32) -> [f32; 6]
             return QUARTER_LEVELS;
         }
     }
-    let a = far_weight(weight);
-    let b = far_weight(a);
-    let c = far_weight(b);
-    let d = far_weight(c);
-    let e = far_weight(d);
-    [far_weight(e), e, d, c, b, a]
+    [0.0f32; 6]
 }
 
 // A level: the weight of its halves, and how often they may be split.
@@ -278,10 +253,10 @@ struct Level {
     splits: usize,
 }
 
-// The level below a half that may be split k times more.
-fn next_level(weight: f32, levels: &[f32; 6], k: usize) -> Level
+// The level below a half that may be split k times more. Its weight is kept for the other halves of the level.
+fn next_level(weight: f32, levels: &mut [f32; 6], k: usize) -> Level
     requires { ⌜ (1 ≤ k) × (k ≤ 6) × Levels k weight (now levels) ⌝ }
-    ensures { λ r. ⌜ (r .weight ≡ halfWeight weight) × (r .splits ≡ splitsLeft (halfWeight weight) (k - 1)) ⌝ }
+    ensures { λ r. ⌜ (r .weight ≡ halfWeight weight) × (r .splits ≡ splitsLeft (halfWeight weight) (k - 1)) × Kept k weight (now (levels .entry)) (now (levels .exit)) ⌝ }
 {
     let given = levels[k - 1];
     if given > 0.0 {
@@ -291,17 +266,57 @@ fn next_level(weight: f32, levels: &[f32; 6], k: usize) -> Level
         };
     }
     let u = split_weight(weight);
+    if is_near_one(u) {
+        return Level {
+            weight: u,
+            splits: 0,
+        };
+    }
+    levels[k - 1] = u;
     Level {
         weight: u,
-        splits: splits_left(u, k - 1),
+        splits: k - 1,
     }
+}
+
+// Lays the quads of a half that is split, and may be k times more, and says how many they are. Its halves are tested here: more than half of them are one quad each.
+fn push_halves(
+    h: [[f32; 2]; 3],
+    weight: f32,
+    levels: &mut [f32; 6],
+    k: usize,
+    floats: &mut [f32],
+    f: usize,
+) -> usize
+    requires { ⌜ (k ≤ 6) × (f + 4 * length (pieces k h weight) ≤ length (now floats)) × (splitsLeft weight k ≡ k) × (single k h weight ≡ false) × Levels k weight (now levels) ⌝ }
+    ensures { λ r. ⌜ Put (pieces k h weight) r (now (floats .entry)) f (now (floats .exit)) × Kept k weight (now (levels .entry)) (now (levels .exit)) ⌝ }
+{
+    let next = next_level(weight, levels, k);
+    let u = next.weight;
+    let j = next.splits;
+    let left = left_half(h, weight);
+    let right = right_half(h, weight);
+    let left_is_quad = is_quad(left, u, j);
+    let right_is_quad = is_quad(right, u, j);
+    if left_is_quad {
+        let l = put_quad(left, floats, f);
+        if right_is_quad {
+            return l + put_quad(right, floats, f + 4 * l);
+        }
+        return l + push_halves(right, u, levels, j, floats, f + 4 * l);
+    }
+    let l = push_halves(left, u, levels, j, floats, f);
+    if right_is_quad {
+        return l + put_quad(right, floats, f + 4 * l);
+    }
+    l + push_halves(right, u, levels, j, floats, f + 4 * l)
 }
 
 // Lays the quads of a half that may be split k times more, 0 for a weight near 1, and says how many they are.
 fn push_half(
     h: [[f32; 2]; 3],
     weight: f32,
-    levels: &[f32; 6],
+    levels: &mut [f32; 6],
     k: usize,
     floats: &mut [f32],
     f: usize,
@@ -312,14 +327,7 @@ fn push_half(
     if is_quad(h, weight, k) {
         return put_quad(h, floats, f);
     }
-    let next = next_level(weight, levels, k);
-    let u = next.weight;
-    let j = next.splits;
-    let left = left_half(h, weight);
-    let right = right_half(h, weight);
-    let l = push_half(left, u, levels, j, floats, f);
-    let r = push_half(right, u, levels, j, floats, f + 4 * l);
-    l + r
+    push_halves(h, weight, levels, k, floats, f)
 }
 
 // Lays the quads of a conic, verbs from v on and floats from f on, and says how many they are.
@@ -336,10 +344,10 @@ pub fn push_conic(
     requires { ⌜ (v + length (quads from ctrl to weight) ≤ length (now verbs)) × (f + 4 * length (quads from ctrl to weight) ≤ length (now floats)) ⌝ }
     ensures { λ r. ⌜ Bent (quads from ctrl to weight) r (now (verbs .entry)) v (now (verbs .exit)) (now (floats .entry)) f (now (floats .exit)) ⌝ }
 {
-    let levels = level_weights(weight);
+    let mut levels = known_levels(weight);
     let h = half_of(from, ctrl, to);
     let k = splits_left(weight, DEPTH);
-    let n = push_half(h, weight, &levels, k, floats, f);
+    let n = push_half(h, weight, &mut levels, k, floats, f);
     put_verbs(verbs, v, n);
     n
 }
@@ -349,8 +357,8 @@ pub fn count_quads(from: Vec2, ctrl: Vec2, to: Vec2, weight: f32) -> usize
     ensures { λ r. ⌜ (r ≡ length (quads from ctrl to weight)) × (1 ≤ r) × (r ≤ 64) ⌝ }
 {
     let mut floats = [0.0f32; 256];
-    let levels = [0.0f32; 6];
+    let mut levels = [0.0f32; 6];
     let h = half_of(from, ctrl, to);
     let k = splits_left(weight, DEPTH);
-    push_half(h, weight, &levels, k, &mut floats, 0)
+    push_half(h, weight, &mut levels, k, &mut floats, 0)
 }

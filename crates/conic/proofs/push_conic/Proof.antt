@@ -10,8 +10,8 @@ use borrow.Author.Needs.{needs}
 use Rattle.conic.proofs.push_conic.Statement.{statement}
 use Rattle.conic.proofs.push_conic.Tie as tie
 
-level-weights-requires : tie.Need-level-weights-requires
-level-weights-requires c κs = search needs
+known-levels-requires : tie.Need-known-levels-requires
+known-levels-requires c κs = search needs
 
 half-of-requires : tie.Need-half-of-requires
 half-of-requires c κs = search needs
@@ -29,7 +29,7 @@ push-half-requires c κs =
     let a = c .before .before .before .before .before .before .before .args in
     let e = ap length (laid s) in
     let l = s .splits-left .ensures in
-    (rw l (splits-few (a .weight) 6), omega (arith, e), rw l (splits-again (a .weight) 6), rw l (levels-left (a .weight) _ 6 (c .before .before .before .before .level-weights .ensures)))
+    (rw l (splits-few (a .weight) 6), omega (arith, e), rw l (splits-again (a .weight) 6), rw l (levels-left (a .weight) _ 6 (c .before .before .before .before .known-levels .ensures)))
 
 put-verbs-requires : tie.Need-put-verbs-requires
 put-verbs-requires c κs = omega (arith, c .before .before .before .push-half .ensures .number, ap length (laid (c .before .before .before .before .before .before)))
@@ -47,7 +47,7 @@ pub push-conic-spec : {M : Type 1} → statement M
 push-conic-spec =
     tie.close
     (tie.spec
-    level-weights-requires
+    known-levels-requires
     half-of-requires
     splits-left-requires
     push-half-requires
