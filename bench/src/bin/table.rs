@@ -149,6 +149,61 @@ fn building(what: &str, calls: &[Call]) {
     row(&format!("{what}, as one list"), "call", times);
 }
 
+/// A move to the first two numbers, then up to n calls of one kind: crates/loops.
+type Loop = unsafe extern "C" fn(
+    n: u32,
+    numbers: *const f32,
+    numbers_len: usize,
+    verbs: *mut u8,
+    verbs_len: usize,
+    points: *mut f32,
+    points_len: usize,
+) -> ffi::Replayed;
+
+macro_rules! loops {
+    ($($name:ident)*) => {
+        extern "C" {
+            $(fn $name(n: u32, numbers: *const f32, numbers_len: usize, verbs: *mut u8, verbs_len: usize, points: *mut f32, points_len: usize) -> ffi::Replayed;)*
+        }
+        /// By the kinds of an encoded list.
+        const LOOPS: [Loop; 6] = [$($name),*];
+    };
+}
+
+loops!(hz_loop_moves hz_loop_lines hz_loop_quads hz_loop_cubics hz_loop_closes hz_loop_conics);
+
+/// Calls of one kind behind a move, in a loop that reads no list of kinds. Both sides make the move too.
+fn looping(what: &str, start: Vec2, calls: &[Call]) {
+    let calls = &[&[Call::Move(start)], calls].concat()[..];
+    let (kinds, numbers) = encoded(calls);
+    let (mut verbs, mut points) = (vec![0u8; 65_536], vec![0f32; 262_144]);
+    let own = |verbs: &mut [u8], points: &mut [f32]| {
+        // SAFETY: the numbers are read; both buffers are lent with their own lengths.
+        let r = unsafe {
+            LOOPS[kinds[1] as usize](
+                calls.len() as u32 - 1,
+                numbers.as_ptr(),
+                numbers.len(),
+                verbs.as_mut_ptr(),
+                verbs.len(),
+                points.as_mut_ptr(),
+                points.len(),
+            )
+        };
+        assert_eq!((r.calls, r.refused), (calls.len(), 0));
+        black_box(&points);
+        r.state
+    };
+    let s = own(&mut verbs, &mut points);
+    let laid = given(&built(calls).build());
+    assert_eq!(verbs[..s.verbs], laid.verbs);
+    assert!(points[..2 * s.points].iter().map(|x| x.to_bits()).eq(laid.points.iter().map(|x| x.to_bits())));
+    let times = best(calls.len(), || drop(black_box(built(black_box(calls)))), || {
+        black_box(own(&mut verbs, &mut points));
+    });
+    row(&format!("{what}, in a plain loop"), "call", times);
+}
+
 /// A path as the library takes it.
 struct Given {
     verbs: Vec<u8>,
@@ -280,18 +335,20 @@ fn main() {
     let moves: Vec<Call> = (0..20_000).map(|_| Call::Move(r.point(100))).collect();
     let mut closes = vec![Call::Close; 20_000];
     closes[0] = Call::Move(r.point(100));
-    building("build: moves", &moves);
-    building("build: lines", &lines);
-    building("build: quads", &quads);
-    building("build: cubics", &cubics);
-    building("build: closes", &closes);
+    let start = r.point(100);
+    for (what, calls) in [("build: moves", &moves), ("build: lines", &lines), ("build: quads", &quads), ("build: cubics", &cubics), ("build: closes", &closes)] {
+        building(what, calls);
+        looping(what, start, &calls[1..]);
+    }
     building("build: mixed", &mixed);
     for (what, weight) in [("weight 1, one quad each", 1.0), ("weight 0.9", 0.9), ("quarter circles' weight, 0.707", 0.5f32.sqrt()), ("weight 0.5", 0.5), ("weight 8.3", 8.3), ("weight 100", 100.0)] {
         let conics: Vec<Call> = (0..1000).map(|_| Call::Conic(r.point(100), r.point(100), weight)).collect();
         building(&format!("conics: {what}"), &conics);
+        looping(&format!("conics: {what}"), start, &conics);
     }
     let any: Vec<Call> = (0..1000).map(|_| Call::Conic(r.point(100), r.point(100), 0.25 + r.below(64) as f32 / 8.0)).collect();
     building("conics: weights 0.25 to 8", &any);
+    looping("conics: weights 0.25 to 8", start, &any);
     flattening("flatten: lines", &lines, 0.25);
     flattening("flatten: quads", &quads[..5000], 0.25);
     flattening("flatten: cubics", &cubics[..5000], 0.25);

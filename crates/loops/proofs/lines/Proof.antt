@@ -1,0 +1,78 @@
+-- `loops::lines` meets its contract. Assumes nothing.
+use mathlib.Core.Path.{ap, _∙_}
+use Prim.Native.Nat.{_-_, _≤_}
+use native.Mathlib.Omega.{arith}
+use lib.ListN.{length}
+use Rattle.builder.specs.declared.Call.the-variants.{LineTo}
+use Rattle.claims.proofs.Turns.{call-kept}
+use Rattle.loops.proofs.Laps.{Stands, rest, begins, room, turned, ended, whole}
+use borrow.Author.Needs.{needs}
+use Rattle.loops.proofs.lines.Statement.{statement}
+use Rattle.loops.proofs.lines.Tie as tie
+
+abbrev Inv-loop : tie.InvT-loop
+Inv-loop n numbers verbs₀ points₀ state₀ refused₀ i₀ at₀ turns verbs points state refused i at =
+    (i ≤ turns) × Stands 1 n numbers (length verbs₀) (length points₀) (rest 1 n numbers verbs₀ points₀ state₀ refused₀) verbs points state i at refused
+
+abbrev μ-loop : tie.MeasureT-loop
+μ-loop n numbers verbs₀ points₀ state₀ refused₀ i₀ at₀ turns verbs points state refused i at = turns - i
+
+start-requires : tie.Need-start-requires Inv-loop μ-loop
+start-requires c κs = search needs
+
+one-if-requires : tie.Need-one-if-requires Inv-loop μ-loop
+one-if-requires c κs = search needs
+
+sub-turns-of : tie.Need-sub-turns-of Inv-loop μ-loop
+sub-turns-of c = c .before .before .before .before .before .before .before .before .before .before .before .before .pre .0
+
+turns-of-requires : tie.Need-turns-of-requires Inv-loop μ-loop
+turns-of-requires c κs = omega arith
+
+loop-holds : tie.Need-loop-holds Inv-loop μ-loop
+loop-holds c = (omega arith, begins 1 _ _ _ _ _ _ (c .before .one-if .ensures .1))
+
+point-at-requires : tie.Need-point-at-requires Inv-loop μ-loop
+point-at-requires c κs = omega (arith, room 1 (c .before .before .before .before .before .before .before .before .before .before .before .before .before .before .before .args .n) (c .before .before .before .before .before .before .before .before .before .before .before .before .before .before .before .args .numbers .now) (c .before .before .turns-of .result) (omega arith) (c .before .before .before .before .before .before .before .before .before .before .before .before .before .before .before .pre .0) (c .before .before .turns-of .ensures) (c .before .loop .inv .1 .place) (c .loop-test .taken))
+
+line-to-requires : tie.Need-line-to-requires Inv-loop μ-loop
+line-to-requires c κs = search needs
+
+one-if-requires-2 : tie.Need-one-if-requires-2 Inv-loop μ-loop
+one-if-requires-2 c κs = search needs
+
+add-refused : tie.Need-add-refused Inv-loop μ-loop
+add-refused c = omega (arith, c .before .before .before .before .before .before .before .before .before .before .before .loop .inv .1 .few, c .before .before .before .before .before .before .before .before .before .before .loop-test .taken, c .one-if2 .ensures .1, c .before .before .before .before .before .before .before .before .before .before .before .before .turns-of .ensures .most, c .before .before .before .before .before .before .before .before .before .before .before .before .before .before .before .before .before .before .before .before .before .before .before .before .before .pre .1)
+
+add-i : tie.Need-add-i Inv-loop μ-loop
+add-i c = omega (arith, c .before .before .before .before .before .before .before .before .before .before .loop-test .taken, c .before .before .before .before .before .before .before .before .before .before .before .before .turns-of .ensures .most, c .before .before .before .before .before .before .before .before .before .before .before .before .before .before .before .before .before .before .before .before .before .before .before .before .before .pre .1)
+
+add-at : tie.Need-add-at Inv-loop μ-loop
+add-at c = omega (arith, room 1 (c .before .before .before .before .before .before .before .before .before .before .before .before .before .before .before .before .before .before .before .before .before .before .before .before .before .args .n) (c .before .before .before .before .before .before .before .before .before .before .before .before .before .before .before .before .before .before .before .before .before .before .before .before .before .args .numbers .now) (c .before .before .before .before .before .before .before .before .before .before .before .before .turns-of .result) (omega arith) (c .before .before .before .before .before .before .before .before .before .before .before .before .before .before .before .before .before .before .before .before .before .before .before .before .before .pre .0) (c .before .before .before .before .before .before .before .before .before .before .before .before .turns-of .ensures) (c .before .before .before .before .before .before .before .before .before .before .before .loop .inv .1 .place) (c .before .before .before .before .before .before .before .before .before .before .loop-test .taken), c .before .before .before .before .before .before .before .before .before .before .before .before .before .before .before .before .before .before .before .before .before .before .before .before .before .good)
+
+loop-less : tie.Need-loop-less Inv-loop μ-loop
+loop-less c = omega (arith, c .before .before .before .before .before .before .before .before .before .before .loop-test .taken)
+
+loop-again : tie.Need-loop-again Inv-loop μ-loop
+loop-again c = (
+  omega (arith, c .before .before .before .before .before .before .before .before .before .before .loop-test .taken),
+  turned 1 _ _ _ (omega arith) (c .before .before .before .before .before .before .before .before .before .before .before .before .before .before .before .before .before .before .before .before .before .before .before .before .before .pre .0) (c .before .before .before .before .before .before .before .before .before .before .before .before .turns-of .ensures) (c .before .before .before .before .before .before .before .before .before .before .before .loop .inv .1) (c .before .before .before .before .before .before .before .before .before .before .loop-test .taken) _ _ _ _ _
+      (c .before .before .before .before .before .before .line-to .ensures) (ap LineTo (c .before .before .before .before .before .before .before .before .before .point-at .ensures)) (c .one-if2 .ensures),
+)
+
+add-t17 : tie.Need-add-t17 Inv-loop μ-loop
+add-t17 c = omega (arith, c .before .loop .inv .0, c .before .before .turns-of .ensures .most, c .before .before .before .before .before .before .before .before .before .before .before .before .before .before .before .pre .1)
+
+same-length : tie.Need-same-length Inv-loop μ-loop
+same-length c = c .before .loop .inv .1 .bytes ∙ call-kept _ _ _ _ _ _ _ (c .before .before .before .before .before .before .before .before .before .start .ensures) .bytes
+
+same-length-2 : tie.Need-same-length-2 Inv-loop μ-loop
+same-length-2 c = c .before .loop .inv .1 .floats ∙ call-kept _ _ _ _ _ _ _ (c .before .before .before .before .before .before .before .before .before .start .ensures) .floats
+
+returns : tie.Need-returns Inv-loop μ-loop
+returns c =
+    ended 1 _ _ _ (omega arith) (c .before .before .before .before .before .before .before .before .before .before .before .before .before .before .before .pre .0) (c .before .before .turns-of .ensures) (c .before .loop .inv .1) (c .before .loop .inv .0) (c .loop-test .left)
+    ∙ whole 1 (c .before .before .before .before .before .before .before .before .before .before .before .before .before .before .before .args .n) (c .before .before .before .before .before .before .before .before .before .before .before .before .before .before .before .args .numbers .now) _ _ _ _ _ _ (c .before .before .before .before .before .before .before .before .before .before .before .before .before .before .before .pre .0) (c .before .before .before .before .before .before .before .before .before .start .ensures) (c .before .before .before .one-if .ensures .0)
+
+pub lines-spec : {M : Type 1} → statement M
+lines-spec = tie.close (tie.spec Inv-loop μ-loop start-requires one-if-requires sub-turns-of turns-of-requires loop-holds point-at-requires line-to-requires one-if-requires-2 add-refused add-i add-at loop-less loop-again add-t17 same-length same-length-2 returns)
