@@ -8,7 +8,7 @@ use lib.Seq.{sets}
 use lib.Dec.{leb, ltb, eqb}
 use lib.Ieee.{Float}
 use Rattle.vec2.specs.declared.Vec2.{Vec2}
-use Rattle.vec2.specs.Points.{flat}
+use Rattle.vec2.specs.Points.{flat, pointsIn}
 use Rattle.path.specs.declared.Segment.{Segment}
 use Rattle.path.specs.declared.FillRule.{FillRule}
 use Rattle.path.specs.Segment.{bytesOf, allPoints, segments}
@@ -82,6 +82,10 @@ outIf false ss n k rule vs fs = cutOutcome (refusedBy 3) vs fs
 
 abbrev pub outOutcome : List Segment → ℕ → ℕ → FillRule → List ℕ → List Float → CutOutcome
 outOutcome ss n k rule vs fs = outIf (outFits ss vs fs) ss n k rule vs fs
+
+-- the same of the scratch: flat points and their ends, walked by a cycle from a start in it
+abbrev pub scratchOutcome : List Float → Pos → List Float → List ℕ → FillRule → List ℕ → List Float → CutOutcome
+scratchOutcome cycle start scratch ends rule vs fs = outOutcome (walked cycle start (pointsIn scratch) ends) (length scratch / 2) (length ends) rule vs fs
 
 -- ---- the reply and all four buffers
 

@@ -10,7 +10,7 @@ ghost use Rattle.walk.specs.Count.{UpTo, itself};
 ghost use Rattle.walk.specs.Lengths.{Kept};
 ghost use Rattle.dash.specs.Ends.{Ordered};
 ghost use Rattle.dash.specs.Answer.{answerOf};
-ghost use Rattle.dash.specs.Dash.{refusal as refusalOf, walked, Cap, cutOutcome, outOutcome, outcome, cutting, dashing};
+ghost use Rattle.dash.specs.Dash.{refusal as refusalOf, walked, Cap, cutOutcome, scratchOutcome, outcome, cutting, dashing};
 ghost use Rattle.dash.specs.Outline.{part as partOf, outlineOf};
 use path::FillRule;
 use walk::Pos;
@@ -153,7 +153,7 @@ fn cut_by(
 ) -> Dashed
     requires { ⌜ (start .index < length (now cycle)) × Ordered (length (now points)) 0 (now ends) × Kept (now lengths) (now points) ⌝ }
     ensures { λ r. ⌜ cutOutcome (answerOf r) (now (verbs .exit)) (now (floats .exit))
-        ≡ outOutcome (walked (now (cycle .entry)) start (pointsIn (now (points .entry))) (now (ends .entry))) (length (now (points .entry)) / 2) (length (now (ends .entry))) rule (now (verbs .entry)) (now (floats .entry)) ⌝ }
+        ≡ scratchOutcome (now (cycle .entry)) start (now (points .entry)) (now (ends .entry)) rule (now (verbs .entry)) (now (floats .entry)) ⌝ }
 {
     let cap = room(verbs.len(), floats.len());
     let n = count_all(points, lengths, ends, cycle, start, cap);
@@ -184,7 +184,7 @@ fn cut_few(
 ) -> Dashed
     requires { ⌜ (start .index < length (now cycle)) × Ordered (length (now points)) 0 (now ends) ⌝ }
     ensures { λ r. ⌜ cutOutcome (answerOf r) (now (verbs .exit)) (now (floats .exit))
-        ≡ outOutcome (walked (now (cycle .entry)) start (pointsIn (now (points .entry))) (now (ends .entry))) (length (now (points .entry)) / 2) (length (now (ends .entry))) rule (now (verbs .entry)) (now (floats .entry)) ⌝ }
+        ≡ scratchOutcome (now (cycle .entry)) start (now (points .entry)) (now (ends .entry)) rule (now (verbs .entry)) (now (floats .entry)) ⌝ }
 {
     let mut kept = [0.0f32; 256];
     walk::keep_lengths(points, &mut kept);
@@ -203,7 +203,7 @@ fn cut_many(
 ) -> Dashed
     requires { ⌜ (start .index < length (now cycle)) × Ordered (length (now points)) 0 (now ends) ⌝ }
     ensures { λ r. ⌜ cutOutcome (answerOf r) (now (verbs .exit)) (now (floats .exit))
-        ≡ outOutcome (walked (now (cycle .entry)) start (pointsIn (now (points .entry))) (now (ends .entry))) (length (now (points .entry)) / 2) (length (now (ends .entry))) rule (now (verbs .entry)) (now (floats .entry)) ⌝ }
+        ≡ scratchOutcome (now (cycle .entry)) start (now (points .entry)) (now (ends .entry)) rule (now (verbs .entry)) (now (floats .entry)) ⌝ }
 {
     let mut kept = [0.0f32; 8192];
     walk::keep_lengths(points, &mut kept);
@@ -222,7 +222,7 @@ fn cut_all(
 ) -> Dashed
     requires { ⌜ (start .index < length (now cycle)) × Ordered (length (now points)) 0 (now ends) ⌝ }
     ensures { λ r. ⌜ cutOutcome (answerOf r) (now (verbs .exit)) (now (floats .exit))
-        ≡ outOutcome (walked (now (cycle .entry)) start (pointsIn (now (points .entry))) (now (ends .entry))) (length (now (points .entry)) / 2) (length (now (ends .entry))) rule (now (verbs .entry)) (now (floats .entry)) ⌝ }
+        ≡ scratchOutcome (now (cycle .entry)) start (now (points .entry)) (now (ends .entry)) rule (now (verbs .entry)) (now (floats .entry)) ⌝ }
 {
     if points.len() <= 512 {
         return cut_few(points, ends, cycle, start, rule, verbs, floats);
