@@ -352,13 +352,26 @@ pub fn push_conic(
     n
 }
 
-// How many quads a conic gives: they are laid in a buffer of their own.
+// How many quads a half gives that may be split k times more, 0 for a weight near 1.
+fn count_half(h: [[f32; 2]; 3], weight: f32, k: usize) -> usize
+    requires { ⌜ (k ≤ 6) × (splitsLeft weight k ≡ k) ⌝ }
+    ensures { λ r. ⌜ r ≡ length (pieces k h weight) ⌝ }
+{
+    if is_quad(h, weight, k) {
+        return 1;
+    }
+    let u = split_weight(weight);
+    let j = splits_left(u, k - 1);
+    let l = count_half(left_half(h, weight), u, j);
+    let r = count_half(right_half(h, weight), u, j);
+    l + r
+}
+
+// How many quads a conic gives. It is asked for where there is no room for 64, and takes no buffer.
 pub fn count_quads(from: Vec2, ctrl: Vec2, to: Vec2, weight: f32) -> usize
     ensures { λ r. ⌜ (r ≡ length (quads from ctrl to weight)) × (1 ≤ r) × (r ≤ 64) ⌝ }
 {
-    let mut floats = [0.0f32; 256];
-    let mut levels = [0.0f32; 6];
     let h = half_of(from, ctrl, to);
     let k = splits_left(weight, DEPTH);
-    push_half(h, weight, &mut levels, k, &mut floats, 0)
+    count_half(h, weight, k)
 }
