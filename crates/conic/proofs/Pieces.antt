@@ -25,13 +25,13 @@ use Rattle.path.specs.declared.Segment.{Segment}
 use Rattle.path.specs.declared.Segment.the-variants.{Quad}
 use Rattle.path.specs.Segment.{allPoints}
 use Rattle.path.proofs.Encoded.{allPoints-append}
-use Rattle.conic.specs.Conic.{nearOne, nearMid, near, halfWeight, split, quads}
-use Rattle.conic.specs.Lay.{Half, fromOf, ctrlOf, toOf, halfOf, leftHalf, rightHalf, single, splitsLeft, pieces, Put, Bent}
+use Rattle.conic.specs.Conic.{nearOne, nearMidBy, nearMid, near, halfWeight, split, quads}
+use Rattle.conic.specs.Lay.{Half, fromOf, ctrlOf, toOf, halfOf, leftHalf, rightHalf, singleBy, single, splitsLeft, pieces, Put, Bent}
 use Rattle.conic.proofs.Laws.{split-most, split-points, quads-bytes}
 
-pub single-of : (k : ℕ) (h : Half) (w : Float) {r : Bool} → (k ≡ 0 → ⊥) → r ≡ nearMid (fromOf h) (ctrlOf h) (toOf h) w → r ≡ single k h w
-single-of zero h w nz e = absurd (nz refl)
-single-of (suc k) h w nz e = e
+pub single-of : (k : ℕ) (h : Half) (twice sum : Float) {r : Bool} → (k ≡ 0 → ⊥) → r ≡ nearMidBy (fromOf h) (ctrlOf h) (toOf h) twice sum → r ≡ singleBy k h twice sum
+single-of zero h twice sum nz e = absurd (nz refl)
+single-of (suc k) h twice sum nz e = e
 
 one-of : (k : ℕ) (b : Bool) (a c t : Vec2) (w : Float) → b ≡ true → split k b a c t w ≡ Quad c t ∷ []
 unfolding split

@@ -23,9 +23,9 @@ thousandth = ofBits binary32 0x3a83_126f
 abbrev pub square : Vec2 → Float
 square p = plus (times (p .x) (p .x)) (times (p .y) (p .y))
 
--- the way from the quad's midpoint to the conic's
-abbrev pub gap : Vec2 → Vec2 → Vec2 → Float → Vec2
-gap a c t w = (a ⊕ c ⊙ times f2 w ⊕ t) ⊘ times f2 (plus f1 w) ⊖ (a ⊕ c ⊙ f2 ⊕ t) ⊙ quarter
+-- the way from the quad's midpoint to the conic's, from twice the weight and twice 1 + weight
+abbrev pub gapBy : Vec2 → Vec2 → Vec2 → Float → Float → Vec2
+gapBy a c t twice sum = (a ⊕ c ⊙ twice ⊕ t) ⊘ sum ⊖ (a ⊕ c ⊙ f2 ⊕ t) ⊙ quarter
 
 -- chord > 0 with the midpoints within 0.001 of the chord
 abbrev pub within : Float → Float → Bool
@@ -35,9 +35,12 @@ within chord apart = lt f0 chord && le apart (times thousandth chord)
 unfoldable pub nearOne : Float → Bool
 nearOne w = le (abs (minus w f1)) thousandth
 
--- the midpoints of conic and quad are near by the chord's measure
-unfoldable pub nearMid : Vec2 → Vec2 → Vec2 → Float → Bool
-nearMid a c t w = within (len (t ⊖ a)) (len (gap a c t w))
+-- the midpoints of conic and quad are near by the chord's measure; then the same for a weight
+unfoldable pub nearMidBy : Vec2 → Vec2 → Vec2 → Float → Float → Bool
+nearMidBy a c t twice sum = within (len (t ⊖ a)) (len (gapBy a c t twice sum))
+
+abbrev pub nearMid : Vec2 → Vec2 → Vec2 → Float → Bool
+nearMid a c t w = nearMidBy a c t (times f2 w) (times f2 (plus f1 w))
 
 unfoldable pub near : Vec2 → Vec2 → Vec2 → Float → Bool
 near a c t w = nearOne w || nearMid a c t w

@@ -6,13 +6,13 @@ use mathlib.Core.List.{List, [], _∷_}
 use lib.ListN.{getD, drop, length}
 use lib.Seq.{sets}
 use lib.Ieee.{Float, nan, binary32, ofBits, lt, le}
-use Rattle.float.specs.Arith.{f0}
+use Rattle.float.specs.Arith.{plus, times, f0, f1, f2}
 use Rattle.vec2.specs.declared.Vec2.{Vec2}
 use Rattle.vec2.specs.Vec2.{vec}
 use Rattle.vec2.specs.Points.{flat}
 use Rattle.path.specs.declared.Segment.{Segment}
 use Rattle.path.specs.Segment.{bytesOf, allPoints}
-use Rattle.conic.specs.Conic.{nearOne, nearMid, near, leftOf, rightOf, middle, halfWeight, split}
+use Rattle.conic.specs.Conic.{nearOne, nearMidBy, near, leftOf, rightOf, middle, halfWeight, split}
 
 -- "a split half is three points in an array"
 abbrev pub Half : Type 0
@@ -41,9 +41,12 @@ abbrev pub rightHalf : Half → Float → Half
 rightHalf h w = halfOf (middle (fromOf h) (ctrlOf h) (toOf h) w) (rightOf (ctrlOf h) (toOf h) w) (toOf h)
 
 -- whether a half that may be split k times more, and whose weight is not near 1, is one quad
+abbrev pub singleBy : ℕ → Half → Float → Float → Bool
+singleBy zero h twice sum = true
+singleBy (suc k) h twice sum = nearMidBy (fromOf h) (ctrlOf h) (toOf h) twice sum
+
 abbrev pub single : ℕ → Half → Float → Bool
-single zero h w = true
-single (suc k) h w = nearMid (fromOf h) (ctrlOf h) (toOf h) w
+single k h w = singleBy k h (times f2 w) (times f2 (plus f1 w))
 
 -- how often a half of weight w is still split at most, where its depth allows k times
 abbrev pub splitsLeft : Float → ℕ → ℕ

@@ -7,8 +7,8 @@ ghost use lib.ListN.{length, replicate};
 ghost use lib.Seq.{sets};
 ghost use lib.Ieee.{binary32};
 ghost use Rattle.float.specs.Root.{squareRoot};
-ghost use Rattle.conic.specs.Conic.{straight, square, gap, within, nearOne, nearMid, leftOf, rightOf, middle, halfWeight, quads};
-ghost use Rattle.conic.specs.Lay.{Levels, Kept, fromOf, ctrlOf, toOf, halfOf, leftHalf, rightHalf, moderate, single, splitsLeft, pieces, Put, Bent};
+ghost use Rattle.conic.specs.Conic.{straight, square, gapBy, within, nearOne, nearMidBy, leftOf, rightOf, middle, halfWeight, quads};
+ghost use Rattle.conic.specs.Lay.{Levels, Kept, fromOf, ctrlOf, toOf, halfOf, leftHalf, rightHalf, moderate, single, singleBy, splitsLeft, pieces, Put, Bent};
 ghost use Rattle.path.specs.declared.Segment.the-variants.{Quad};
 use vec2::Vec2;
 
@@ -124,13 +124,11 @@ fn square_of(p: Vec2) -> f32
     p.x * p.x + p.y * p.y
 }
 
-// The way from the quad's midpoint to the conic's.
-fn mid_gap(from: Vec2, ctrl: Vec2, to: Vec2, weight: f32) -> Vec2
-    ensures { λ r. ⌜ r ≡ gap from ctrl to weight ⌝ }
+// The way from the quad's midpoint to the conic's. Callers work out 2 * weight and 2 * (1 + weight), once for both halves: so is_quad is small enough to be inlined.
+fn mid_gap(from: Vec2, ctrl: Vec2, to: Vec2, twice: f32, sum: f32) -> Vec2
+    ensures { λ r. ⌜ r ≡ gapBy from ctrl to twice sum ⌝ }
 {
-    let conic_mid = from.add(ctrl.mul(2.0 * weight))
-        .add(to)
-        .div(2.0 * (1.0 + weight));
+    let conic_mid = from.add(ctrl.mul(twice)).add(to).div(sum);
     let quad_mid = from.add(ctrl.mul(2.0)).add(to).mul(0.25);
     conic_mid.sub(quad_mid)
 }
@@ -169,30 +167,34 @@ fn is_within(chord: f32, gap: f32) -> bool
     is_within_by_roots(chord, gap)
 }
 
-// Whether a conic of this weight is a quad, wherever its points are.
+// Whether a conic of this weight is a quad, wherever its points are. By two tests: an absolute value takes one more, for a NaN.
 fn is_near_one(weight: f32) -> bool
     ensures { λ r. ⌜ r ≡ nearOne weight ⌝ }
 {
-    float::abs(weight - 1.0) <= 0.001
+    let d = weight - 1.0;
+    if d <= 0.001 {
+        return -0.001 <= d;
+    }
+    false
 }
 
 // Whether the quad of the same points is near enough, by the midpoints.
-fn is_near(from: Vec2, ctrl: Vec2, to: Vec2, weight: f32) -> bool
-    ensures { λ r. ⌜ r ≡ nearMid from ctrl to weight ⌝ }
+fn is_near(from: Vec2, ctrl: Vec2, to: Vec2, twice: f32, sum: f32) -> bool
+    ensures { λ r. ⌜ r ≡ nearMidBy from ctrl to twice sum ⌝ }
 {
     let chord = square_of(to.sub(from));
-    let gap = square_of(mid_gap(from, ctrl, to, weight));
+    let gap = square_of(mid_gap(from, ctrl, to, twice, sum));
     is_within(chord, gap)
 }
 
 // Whether a half that may be split k times more is one quad.
-fn is_quad(h: [[f32; 2]; 3], weight: f32, k: usize) -> bool
-    ensures { λ r. ⌜ r ≡ single k h weight ⌝ }
+fn is_quad(h: [[f32; 2]; 3], twice: f32, sum: f32, k: usize) -> bool
+    ensures { λ r. ⌜ r ≡ singleBy k h twice sum ⌝ }
 {
     if k == 0 {
         return true;
     }
-    is_near(from_of(h), ctrl_of(h), to_of(h), weight)
+    is_near(from_of(h), ctrl_of(h), to_of(h), twice, sum)
 }
 
 // How often a conic of this weight may still be split, where its depth allows k times.
@@ -296,8 +298,10 @@ fn push_halves(
     let j = next.splits;
     let left = left_half(h, weight);
     let right = right_half(h, weight);
-    let left_is_quad = is_quad(left, u, j);
-    let right_is_quad = is_quad(right, u, j);
+    let twice = 2.0 * u;
+    let sum = 2.0 * (1.0 + u);
+    let left_is_quad = is_quad(left, twice, sum, j);
+    let right_is_quad = is_quad(right, twice, sum, j);
     if left_is_quad {
         let l = put_quad(left, floats, f);
         if right_is_quad {
@@ -324,7 +328,7 @@ fn push_half(
     requires { ⌜ (k ≤ 6) × (f + 4 * length (pieces k h weight) ≤ length (now floats)) × (splitsLeft weight k ≡ k) × Levels k weight (now levels) ⌝ }
     ensures { λ r. ⌜ Put (pieces k h weight) r (now (floats .entry)) f (now (floats .exit)) ⌝ }
 {
-    if is_quad(h, weight, k) {
+    if is_quad(h, 2.0 * weight, 2.0 * (1.0 + weight), k) {
         return put_quad(h, floats, f);
     }
     push_halves(h, weight, levels, k, floats, f)
@@ -357,7 +361,7 @@ fn count_half(h: [[f32; 2]; 3], weight: f32, k: usize) -> usize
     requires { ⌜ (k ≤ 6) × (splitsLeft weight k ≡ k) ⌝ }
     ensures { λ r. ⌜ r ≡ length (pieces k h weight) ⌝ }
 {
-    if is_quad(h, weight, k) {
+    if is_quad(h, 2.0 * weight, 2.0 * (1.0 + weight), k) {
         return 1;
     }
     let u = split_weight(weight);

@@ -1,16 +1,16 @@
 -- `conic::is_near_one` meets its contract. Assumes nothing.
-use mathlib.Core.Path.{refl}
 use Rattle.conic.specs.Conic.{nearOne}
-use borrow.Author.Needs.{needs}
+use Rattle.conic.proofs.Sides.{within-both, over-one}
 use Rattle.conic.proofs.is_near_one.Statement.{statement}
 use Rattle.conic.proofs.is_near_one.Tie as tie
 
-abs-requires : tie.Need-abs-requires
-abs-requires c κs = search needs
-
 returns : tie.Need-returns
 unfolding nearOne
-returns c = rw (c .abs .ensures)
+returns c = within-both _ (c .if1 .taken)
+
+returns-2 : tie.Need-returns-2
+unfolding nearOne
+returns-2 c = over-one _ (c .if1 .left)
 
 pub is-near-one-spec : {M : Type 1} → statement M
-is-near-one-spec = tie.close (tie.spec abs-requires returns)
+is-near-one-spec = tie.close (tie.spec returns returns-2)

@@ -23,7 +23,7 @@ is-near-requires c κs = search needs
 returns-2 : tie.Need-returns-2
 returns-2 c =
     let d = c .before .before .before in
-    single-of _ _ _ (d .before .if1 .left) (c .is-near .ensures ∙ rw (c .before .to-of .ensures, c .before .before .ctrl-of .ensures, d .from-of .ensures))
+    single-of _ _ _ _ (d .before .if1 .left) (c .is-near .ensures ∙ rw (c .before .to-of .ensures, c .before .before .ctrl-of .ensures, d .from-of .ensures))
 
 pub is-quad-spec : {M : Type 1} → statement M
 is-quad-spec =
