@@ -2,12 +2,13 @@
 --     begun-nil, begun-more     nothing laid; one list laid behind another
 --     opened                    the state behind what a drawn call lays
 --     replied, drawn-done       the whole outcome of a call; of a drawn one
+--     bend-done, bend-free      that of a conic that was measured, and of one that need not be
 -- Assumes nothing.
 use mathlib.Core.Path.{_≡_, refl, sym, ap, subst, _∙_}
 use mathlib.Core.Bool.{Bool, true, false}
 use mathlib.Core.List.{List, [], _∷_, _++_}
 use Prim.Native.Nat.{ℕ, zero, suc, _+_, _*_, _≤_}
-use native.Mathlib.Nat.{zero-add, add-assoc}
+use native.Mathlib.Nat.{zero-add, add-zero, add-assoc}
 use native.Mathlib.Omega.{arith}
 use lib.ListN.{length, length-append}
 use lib.Seq.{sets}
@@ -22,15 +23,15 @@ use Rattle.path.specs.Segment.{bytesOf, allPoints}
 use Rattle.path.proofs.Encoded.{bytesOf-append, allPoints-append, length-bytes}
 use Rattle.conic.specs.Conic.{straight, quads}
 use Rattle.conic.specs.Lay.{Bent}
-use Rattle.conic.proofs.Laws.{Quads, one, more, quads-quads, quads-points}
+use Rattle.conic.proofs.Laws.{Quads, one, more, quads-quads, quads-points, quads-most}
 use Rattle.builder.specs.declared.Call.{Call}
 use Rattle.builder.specs.declared.Call.the-variants.{LineTo, ConicTo}
 use Rattle.builder.specs.declared.PathBuilder.{PathBuilder}
 use Rattle.builder.specs.declared.Reply.{Reply}
 use Rattle.builder.specs.Call.{opening, lead, from, lays}
 use Rattle.builder.specs.Build.{startOf, moved, step, steps, refusal, unless, Outcome, outcome, pushedBy, pushed, quadsLaid, called, penOf}
-use Rattle.builder.proofs.Laws.{unless-not, refusal-as}
-use Rattle.builder.specs.Room.{Begun, drawnBy, repliedBy}
+use Rattle.builder.proofs.Laws.{unless-not, refusal-as, refusal-room, refusal-less, room-less}
+use Rattle.builder.specs.Room.{Room, Free, Begun, drawnBy, repliedBy}
 
 -- ---- the buffers
 
@@ -185,6 +186,34 @@ module _ (b : PathBuilder) (vs : List ℕ) (fs : List Float) (c t : Vec2) (w : F
       pushed (length (quads (from (b .started) (penOf b)) c t w)) b vs fs (opening (b .started) ++ quads (from (b .started) (penOf b)) c t w) ≡ called b vs fs (ConicTo c t w)
   unfolding called lays quadsLaid
   conic-bend e = rw e
+
+-- a conic from a pen that stands, with room for 64 quads
+
+pub free-room : (b : PathBuilder) (nv nf : ℕ) (a c t : Vec2) (w : Float) {s : Bool} → Free b nv nf s → Room b nv nf (length (quads a c t w)) (2 * length (quads a c t w))
+free-room b nv nf a c t w free = room-less (quads-most a c t w) (omega (arith, quads-most a c t w)) (refusal-room b nv nf 64 128 (free .room))
+
+module _ (b : PathBuilder) (vs : List ℕ) (fs : List Float) (c t : Vec2) (w : Float) (free : Free b (length vs) (length fs) (straight c t w)) where
+  no-lead : 0 ≡ lead (b .started)
+  no-lead = rw (free .stands)
+
+  free-asked : (a : Vec2) → 0 ≡ refusal b (length vs) (length fs) (lead (b .started) + length (quads a c t w)) (lead (b .started) + 2 * length (quads a c t w))
+  free-asked a =
+      let m = quads-most a c t w in
+      refusal-less b (length vs) (length fs) 64 128 _ _ (omega (arith, no-lead, m)) (omega (arith, no-lead, m)) (free .room)
+
+  pub bend-free : (q : ℕ) {a s : Vec2} {r : Reply} {vs' : List ℕ} {fs' : List Float} → a ≡ from (b .started) (penOf b) → s ≡ from (b .started) (startOf b) →
+      Bent (quads a c t w) q vs (b .verbs) vs' fs (2 * b .points) fs' → r ≡ repliedBy 0 q b (moved b q (2 * q) s t) →
+      outcome r vs' fs' ≡ called b vs fs (ConicTo c t w)
+  bend-free q {a} {s} {r} {vs'} {fs'} ea es p er =
+      let nothing : [] ≡ opening (b .started) = rw (free .stands) in
+      let at : Bent (quads a c t w) q vs (b .verbs + 0) vs' fs (2 * (b .points + 0)) fs' = rw (add-zero (b .verbs), add-zero (b .points)) p in
+      let answer : r ≡ repliedBy 0 q b (drawnBy b q (2 * q) t) = er ∙ drawn-zero q es in
+      bend-done b vs fs a c t w 0 (free-asked a) 0 q ea refl no-lead (begun-as nothing (begun-nil 0 b vs fs)) at answer ∙ conic-bend b vs fs c t w (free .curved)
+    where
+      drawn-zero : (q : ℕ) {s : Vec2} → s ≡ from (b .started) (startOf b) → repliedBy 0 q b (moved b q (2 * q) s t) ≡ repliedBy 0 q b (drawnBy b q (2 * q) t)
+      drawn-zero q {s} e =
+          let z : repliedBy 0 q b (moved b q (2 * q) s t) ≡ repliedBy 0 q b (moved b (0 + q) (0 + 2 * q) s t) = rw (zero-add q, zero-add (2 * q)) in
+          z ∙ drawn-as 0 q b q (2 * q) t no-lead e
 
 -- ---- any call
 

@@ -6,11 +6,11 @@ ghost use Prim.Native.Nat.{_+_, _*_, _<_, _≤_};
 ghost use lib.ListN.{length};
 ghost use lib.Seq.{sets};
 ghost use Rattle.vec2.specs.Points.{flat};
-ghost use Rattle.conic.specs.Conic.{quads};
+ghost use Rattle.conic.specs.Conic.{straight, quads};
 ghost use Rattle.builder.specs.declared.Call.the-variants.{MoveTo, LineTo, QuadTo, ConicTo, CubicTo, Close, WithFillRule, AsRoundedRect};
 ghost use Rattle.builder.specs.Call.{opening, lead, from};
 ghost use Rattle.builder.specs.Build.{fresh, startOf, penOf, moved, finiteBox, notedAs, told, currentOf, noteOf, verbCap, pointCap, badState, noRoom, refusal, unless, outcome, pushed, answered, called};
-ghost use Rattle.builder.specs.Room.{Room, Begun, drawnBy, repliedBy};
+ghost use Rattle.builder.specs.Room.{Room, Free, Begun, drawnBy, repliedBy};
 use path::FillRule;
 use path::Rect;
 use vec2::Vec2;
@@ -580,7 +580,8 @@ impl PathBuilder {
         self.drawn(0, q, 2 * q, q, to)
     }
 
-    pub fn conic_to(
+    // A conic, measured first where there may be no room for it.
+    pub fn measured_conic_to(
         self,
         verbs: &mut [u8],
         points: &mut [f32],
@@ -594,6 +595,58 @@ impl PathBuilder {
             return self.line_to(verbs, points, to);
         }
         self.bend_to(verbs, points, ctrl, to, weight)
+    }
+
+    // Whether a conic is a curve from a pen that stands, with room for 64 quads: then nothing is left to measure.
+    fn bends_freely(self, verbs: usize, floats: usize, ctrl: Vec2, to: Vec2, weight: f32) -> bool
+        ensures { λ r. ⌜ (r ≡ true → Free self verbs floats (straight ctrl to weight)) ⌝ }
+    {
+        if !self.started {
+            return false;
+        }
+        if conic::is_straight(ctrl, to, weight) {
+            return false;
+        }
+        self.refused(verbs, floats, 64, 128) == 0
+    }
+
+    // Such a conic's quads, however many they are.
+    fn bend_freely(
+        self,
+        verbs: &mut [u8],
+        points: &mut [f32],
+        ctrl: Vec2,
+        to: Vec2,
+        weight: f32,
+    ) -> Reply
+        requires { ⌜ Free self (length (now verbs)) (length (now points)) (straight ctrl to weight) ⌝ }
+        ensures { λ r. ⌜ outcome r (now (verbs .exit)) (now (points .exit)) ≡ called self (now (verbs .entry)) (now (points .entry)) (ConicTo ctrl to weight) ⌝ }
+    {
+        let pen = self.pen();
+        let start = self.start();
+        let v = self.verbs;
+        let f = 2 * self.points;
+        let q = conic::push_conic(pen, ctrl, to, weight, verbs, v, points, f);
+        self.settle(0, q, 2 * q, q, start, to)
+    }
+
+    // A conic. What need not be measured is laid here, so that a loop keeps its state in registers; the rest gets a copy of its own.
+    pub fn conic_to(
+        self,
+        verbs: &mut [u8],
+        points: &mut [f32],
+        ctrl: Vec2,
+        to: Vec2,
+        weight: f32,
+    ) -> Reply
+        ensures { λ r. ⌜ outcome r (now (verbs .exit)) (now (points .exit)) ≡ called self (now (verbs .entry)) (now (points .entry)) (ConicTo ctrl to weight) ⌝ }
+    {
+        if self.bends_freely(verbs.len(), points.len(), ctrl, to, weight) {
+            return self.bend_freely(verbs, points, ctrl, to, weight);
+        }
+        let b = self;
+        let reply = b.measured_conic_to(verbs, points, ctrl, to, weight);
+        reply
     }
 
     // Any of the calls.

@@ -352,7 +352,7 @@ pub extern "C" fn hz_conic_to(
 {
     reply_out(
         state,
-        state_in(state).conic_to(verbs, points, ctrl, to, weight),
+        state_in(state).measured_conic_to(verbs, points, ctrl, to, weight),
     )
 }
 
