@@ -119,6 +119,26 @@ fn encoded(calls: &[Call]) -> (Vec<u8>, Vec<f32>) {
     (kinds, numbers)
 }
 
+/// Plays an encoded list, which refuses nothing, and answers the state that it leaves.
+fn replayed(kinds: &[u8], numbers: &[f32], verbs: &mut [u8], points: &mut [f32]) -> ffi::Builder {
+    // SAFETY: the list is read; both buffers are lent with their own lengths.
+    let r = unsafe {
+        ffi::hz_replay(
+            kinds.as_ptr(),
+            kinds.len(),
+            numbers.as_ptr(),
+            numbers.len(),
+            verbs.as_mut_ptr(),
+            verbs.len(),
+            points.as_mut_ptr(),
+            points.len(),
+        )
+    };
+    assert_eq!((r.calls, r.refused), (kinds.len(), 0));
+    black_box(points);
+    r.state
+}
+
 fn building(what: &str, calls: &[Call]) {
     let (mut verbs, mut points) = (vec![0u8; 65_536], vec![0f32; 262_144]);
     assert_eq!(played(calls, &mut verbs, &mut points), 0);
@@ -129,79 +149,51 @@ fn building(what: &str, calls: &[Call]) {
     });
     row(&format!("{what}, call by call through C"), "call", times);
     let (kinds, numbers) = encoded(calls);
-    let times = best(calls.len(), || drop(black_box(built(black_box(calls)))), || {
-        // SAFETY: the list is read; both buffers are lent with their own lengths.
-        let r = unsafe {
-            ffi::hz_replay(
-                kinds.as_ptr(),
-                kinds.len(),
-                numbers.as_ptr(),
-                numbers.len(),
-                verbs.as_mut_ptr(),
-                verbs.len(),
-                points.as_mut_ptr(),
-                points.len(),
-            )
-        };
-        assert_eq!((r.calls, r.refused), (calls.len(), 0));
-        black_box(&points);
-    });
+    let times = best(calls.len(), || drop(black_box(built(black_box(calls)))), || _ = black_box(replayed(&kinds, &numbers, &mut verbs, &mut points)));
     row(&format!("{what}, as one list"), "call", times);
 }
 
-/// A move to the first two numbers, then up to n calls of one kind: crates/loops.
-type Loop = unsafe extern "C" fn(
-    n: u32,
-    numbers: *const f32,
-    numbers_len: usize,
-    verbs: *mut u8,
-    verbs_len: usize,
-    points: *mut f32,
-    points_len: usize,
-) -> ffi::Replayed;
-
-macro_rules! loops {
-    ($($name:ident)*) => {
-        extern "C" {
-            $(fn $name(n: u32, numbers: *const f32, numbers_len: usize, verbs: *mut u8, verbs_len: usize, points: *mut f32, points_len: usize) -> ffi::Replayed;)*
-        }
-        /// By the kinds of an encoded list.
-        const LOOPS: [Loop; 6] = [$($name),*];
-    };
+/// Calls of one kind behind a move, in a loop that reads no list of kinds: the Rust as fast as its callers can have it.
+#[inline(never)]
+fn looped(kind: u8, n: &[f32]) -> PathBuilder {
+    let at = |n: &[f32], j: usize| Vec2::new(n[j], n[j + 1]);
+    let mut b = PathBuilder::new();
+    b.move_to(at(n, 0));
+    let n = &n[2..];
+    match kind {
+        0 => n.chunks_exact(2).for_each(|n| _ = b.move_to(at(n, 0))),
+        1 => n.chunks_exact(2).for_each(|n| _ = b.line_to(at(n, 0))),
+        2 => n.chunks_exact(4).for_each(|n| _ = b.quad_to(at(n, 0), at(n, 2))),
+        3 => n.chunks_exact(6).for_each(|n| _ = b.cubic_to(at(n, 0), at(n, 2), at(n, 4))),
+        _ => n.chunks_exact(5).for_each(|n| _ = b.conic_to(at(n, 0), at(n, 2), n[4])),
+    }
+    b
 }
 
-loops!(hz_loop_moves hz_loop_lines hz_loop_quads hz_loop_cubics hz_loop_closes hz_loop_conics);
+/// The same for closes, which have no numbers.
+#[inline(never)]
+fn closed(start: Vec2, n: usize) -> PathBuilder {
+    let mut b = PathBuilder::new();
+    b.move_to(start);
+    (0..n).for_each(|_| _ = b.close());
+    b
+}
 
-/// Calls of one kind behind a move, in a loop that reads no list of kinds. Both sides make the move too.
+/// Calls of one kind behind a move: the library plays them as a list, the Rust reads none.
 fn looping(what: &str, start: Vec2, calls: &[Call]) {
     let calls = &[&[Call::Move(start)], calls].concat()[..];
     let (kinds, numbers) = encoded(calls);
-    let (mut verbs, mut points) = (vec![0u8; 65_536], vec![0f32; 262_144]);
-    let own = |verbs: &mut [u8], points: &mut [f32]| {
-        // SAFETY: the numbers are read; both buffers are lent with their own lengths.
-        let r = unsafe {
-            LOOPS[kinds[1] as usize](
-                calls.len() as u32 - 1,
-                numbers.as_ptr(),
-                numbers.len(),
-                verbs.as_mut_ptr(),
-                verbs.len(),
-                points.as_mut_ptr(),
-                points.len(),
-            )
-        };
-        assert_eq!((r.calls, r.refused), (calls.len(), 0));
-        black_box(&points);
-        r.state
+    let rust = || match kinds[1] {
+        4 => closed(black_box(start), black_box(calls.len() - 1)),
+        kind => looped(black_box(kind), black_box(&numbers)),
     };
-    let s = own(&mut verbs, &mut points);
-    let laid = given(&built(calls).build());
-    assert_eq!(verbs[..s.verbs], laid.verbs);
-    assert!(points[..2 * s.points].iter().map(|x| x.to_bits()).eq(laid.points.iter().map(|x| x.to_bits())));
-    let times = best(calls.len(), || drop(black_box(built(black_box(calls)))), || {
-        black_box(own(&mut verbs, &mut points));
-    });
-    row(&format!("{what}, in a plain loop"), "call", times);
+    let (mut verbs, mut points) = (vec![0u8; 65_536], vec![0f32; 262_144]);
+    let state = replayed(&kinds, &numbers, &mut verbs, &mut points);
+    let laid = given(&rust().build());
+    assert_eq!(verbs[..state.verbs], laid.verbs);
+    assert!(points[..2 * state.points].iter().map(|x| x.to_bits()).eq(laid.points.iter().map(|x| x.to_bits())));
+    let times = best(calls.len(), || drop(black_box(rust())), || _ = black_box(replayed(&kinds, &numbers, &mut verbs, &mut points)));
+    row(&format!("{what}, as one list; the Rust in a plain loop"), "call", times);
 }
 
 /// A path as the library takes it.

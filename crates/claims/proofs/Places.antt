@@ -1,24 +1,27 @@
 -- The calls that are left behind so many kinds and numbers: none, or one and those behind it. Assumes nothing.
-use mathlib.Core.Path.{_≡_}
+use mathlib.Core.Path.{_≡_, sym, ap, ap₂, _∙_}
 use mathlib.Core.Bool.{true, false}
 use mathlib.Core.List.{List, [], _∷_}
-use Prim.Native.Nat.{ℕ, _+_, _-_, _≤_, _<_}
+use Prim.Native.Nat.{ℕ, suc, _+_, _-_, _≤_, _<_}
 use native.Mathlib.Numerals.{add-one}
 use native.Mathlib.Omega.{arith}
 use borrow.Author.Tests.{lt-ltb, le-ltb}
 use lib.ListN.{length, getD, take, drop, length-drop, drop-of-length-le}
-use lib.Seq.{drop-cons, drop-drop, take-all}
-use lib.Ieee.{Float}
-use Rattle.builder.specs.declared.Call.{Call}
-use Rattle.claims.specs.Calls.{taken, callOf, ends, calls}
+use lib.Seq.{drop-cons, drop-drop, getD-drop, take-all}
+use lib.Ieee.{Float, nan}
+use Rattle.vec2.specs.Vec2.{vec}
+use Rattle.claims.specs.Calls.{taken, point, callOf, ends, calls}
+use Rattle.claims.specs.Run.{left}
 
 -- the part from `at` to the end, as code has it
 pub rest-is : (fs : List Float) (at : ℕ) → take (length fs - at) (drop at fs) ≡ drop at fs
 rest-is fs at = take-all (length fs - at) (drop at fs) (omega (arith, length-drop at fs))
 
--- the calls that are left behind i kinds and `at` numbers
-abbrev pub left : List ℕ → List Float → ℕ → ℕ → List Call
-left ks fs i at = calls (drop i ks) (drop at fs)
+-- the point that begins at number j behind the first `at`, as code has it
+pub point-behind : (fs : List Float) (at j : ℕ) → vec (getD fs (at + j) nan) (getD fs (at + j + 1) nan) ≡ point (drop at fs) j
+point-behind fs at j =
+    let next : at + j + 1 ≡ at + suc j = omega arith in
+    ap₂ vec (sym (getD-drop at fs j nan)) (ap (λ (i : ℕ). getD fs i nan) next ∙ sym (getD-drop at fs (suc j) nan))
 
 module _ (ks : List ℕ) (fs : List Float) (i at : ℕ) where
   abbrev kind : ℕ

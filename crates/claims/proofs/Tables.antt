@@ -1,5 +1,6 @@
 -- The numbers that a call of each kind takes, and the call of each kind. Assumes nothing.
 use mathlib.Core.Path.{_≡_, refl, sym, ap, _∙_}
+use mathlib.Core.Logic.{inl, inr}
 use mathlib.Core.List.{List}
 use Prim.Native.Nat.{ℕ, zero, suc, _≤_}
 use native.Mathlib.Omega.{arith}
@@ -11,6 +12,7 @@ use Rattle.builder.specs.declared.Call.{Call}
 use Rattle.builder.specs.declared.Call.the-variants.{ConicTo, CubicTo, AsRoundedRect}
 use Rattle.builder.specs.Build.{Outcome, called}
 use Rattle.claims.specs.Calls.{taken, number, point, note, callOf}
+use Rattle.claims.specs.Run.{Single}
 
 pub takes-none : (k : ℕ) → (k ≡ 0 → ⊥) → (k ≡ 1 → ⊥) → (k ≡ 2 → ⊥) → (k ≡ 3 → ⊥) → (k ≡ 5 → ⊥) → (k ≡ 8 → ⊥) → taken k ≡ 0
 takes-none zero a b c d e f = absurd (a refl)
@@ -46,10 +48,18 @@ conic-as e f g = rw (e, f, g)
 pub note-as : {a b : Vec2} {w : Float} (fs : List Float) → a ≡ point fs 0 → b ≡ point fs 2 → w ≡ number fs 4 → AsRoundedRect (record { min = a; max = b }) w ≡ note fs
 note-as fs e f g = rw (e, f, g)
 
-not-below : (k n : ℕ) → n ≤ k → (k ≡ n → ⊥) → suc n ≤ k
-not-below k n h g = omega (arith, h, g)
+pub last-kind : (k : ℕ) → k ≤ 8 → Single k → (k ≡ 0 → ⊥) → (k ≡ 6 → ⊥) → (k ≡ 7 → ⊥) → k ≡ 8
+last-kind k l (inl e) a f g = absurd (a e)
+last-kind k l (inr h) a f g = omega (arith, l, not-below (not-below h f) g)
+  where
+    not-below : {n : ℕ} → n ≤ k → (k ≡ n → ⊥) → suc n ≤ k
+    not-below h g = omega (arith, h, g)
 
-pub last-kind : (k : ℕ) → k ≤ 8 → (k ≡ 0 → ⊥) → (k ≡ 1 → ⊥) → (k ≡ 2 → ⊥) → (k ≡ 3 → ⊥) → (k ≡ 4 → ⊥) → (k ≡ 5 → ⊥) → (k ≡ 6 → ⊥) → (k ≡ 7 → ⊥) → k ≡ 8
-last-kind k l a b c d e f g h =
-    let four : 4 ≤ k = not-below k 3 (not-below k 2 (not-below k 1 (not-below k 0 (omega arith) a) b) c) d in
-    let eight : 8 ≤ k = not-below k 7 (not-below k 6 (not-below k 5 (not-below k 4 four e) f) g) h in omega (arith, l, eight)
+pub single : (k : ℕ) → (k ≡ 1 → ⊥) → (k ≡ 2 → ⊥) → (k ≡ 3 → ⊥) → (k ≡ 4 → ⊥) → (k ≡ 5 → ⊥) → Single k
+single zero a b c d e = inl refl
+single (suc zero) a b c d e = absurd (a refl)
+single (suc (suc zero)) a b c d e = absurd (b refl)
+single (suc (suc (suc zero))) a b c d e = absurd (c refl)
+single (suc (suc (suc (suc zero)))) a b c d e = absurd (d refl)
+single (suc (suc (suc (suc (suc zero))))) a b c d e = absurd (e refl)
+single (suc (suc (suc (suc (suc (suc k)))))) a b c d e = inr (omega arith)

@@ -1,4 +1,4 @@
--- The loop of `replay`: what the calls that are left make of the present state and buffers, with what was counted, is what the whole list makes of a
+-- The playing of the list: what the calls that are left make of the present state and buffers, with what was counted, is what the whole list makes of a
 -- fresh builder. Assumes nothing.
 use mathlib.Core.Path.{_≡_, refl, sym, ap, ap₂, _∙_}
 use mathlib.Core.Bool.{Bool, true, false, cond}
@@ -19,13 +19,7 @@ use Rattle.path.specs.declared.Segment.{Segment}
 use Rattle.path.specs.Segment.{bytesOf, allPoints}
 use Rattle.claims.specs.Calls.{calls}
 use Rattle.claims.specs.Replay.{Outcome, oneIf, refusedOf, told, replayed}
-
-abbrev pub standing : PathBuilder → List ℕ → List Float → Built
-standing b vs fs = record { state = b; bytes = vs; floats = fs }
-
--- the calls cs played from b, n calls and k refusals standing before
-unfoldable pub played : Built → List Call → ℕ → ℕ → Outcome
-played b cs n k = told (run b cs) (n + length cs) (k + refusedOf (refusals b cs))
+use Rattle.claims.specs.Run.{standing, played}
 
 pub played-whole : (ks : List ℕ) (ns : List Float) (bs : List ℕ) (fs : List Float) → played (over bs fs) (calls ks ns) 0 0 ≡ replayed ks ns bs fs
 unfolding played replayed

@@ -1,12 +1,14 @@
-// A list of builder calls, encoded, and played on a fresh builder: the code that demand 3 speaks of.
+// A list of builder calls, encoded, and played on a fresh builder: the code that demand 3 speaks of. Calls of one kind that stand in a row are played by a
+// loop of their own, so that a turn need not ask for the kind among all.
 ghost use mathlib.Core.Path.{_≡_};
 ghost use Prim.Native.Nat.{_+_, _≤_};
-ghost use lib.ListN.{length};
+ghost use lib.ListN.{length, drop};
 ghost use Rattle.builder.specs.Build as build;
 ghost use Rattle.builder.specs.Build.{called};
 ghost use Rattle.claims.specs.Calls as calls;
 ghost use Rattle.claims.specs.Calls.{taken, point, callOf};
 ghost use Rattle.claims.specs.Replay.{oneIf, outcome, replayed};
+ghost use Rattle.claims.specs.Run.{Single, Counted, Next, Ran, RanOne};
 use builder::PathBuilder;
 use builder::Reply;
 use path::FillRule;
@@ -28,14 +30,14 @@ fn numbers_taken(kind: u8) -> usize
     }
 }
 
-// The point whose first number is number j.
-fn point_at(numbers: &[f32], j: usize) -> Vec2
-    requires { ⌜ j + 2 ≤ length (now numbers) ⌝ }
-    ensures { λ r. ⌜ r ≡ point (now (numbers .entry)) j ⌝ }
+// The point whose first number is number j behind the first `at`.
+fn point_at(numbers: &[f32], at: usize, j: usize) -> Vec2
+    requires { ⌜ at + j + 2 ≤ length (now numbers) ⌝ }
+    ensures { λ r. ⌜ r ≡ point (drop at (now (numbers .entry))) j ⌝ }
 {
     Vec2 {
-        x: numbers[j],
-        y: numbers[j + 1],
+        x: numbers[at + j],
+        y: numbers[at + j + 1],
     }
 }
 
@@ -56,13 +58,13 @@ fn note(b: PathBuilder, numbers: &[f32]) -> Reply
     ensures { λ r. ⌜ r ≡ build.answered (build.told b (calls.note (now (numbers .entry)))) ⌝ }
 {
     let rect = Rect {
-        min: point_at(numbers, 0),
-        max: point_at(numbers, 2),
+        min: point_at(numbers, 0, 0),
+        max: point_at(numbers, 0, 2),
     };
     answer(b.as_rounded_rect(rect, numbers[4]))
 }
 
-// Plays the call of this kind whose numbers are the first of these.
+// Plays the call of this kind whose numbers are the first of these, a kind that has no loop of its own.
 fn play_kind(
     b: PathBuilder,
     kind: u8,
@@ -70,34 +72,12 @@ fn play_kind(
     verbs: &mut [u8],
     points: &mut [f32],
 ) -> Reply
-    requires { ⌜ (kind ≤ 8) × (taken kind ≤ length (now numbers)) ⌝ }
+    requires { ⌜ (kind ≤ 8) × Single kind × (taken kind ≤ length (now numbers)) ⌝ }
     ensures { λ r. ⌜ build.outcome r (now (verbs .exit)) (now (points .exit))
         ≡ called b (now (verbs .entry)) (now (points .entry)) (callOf kind (now (numbers .entry))) ⌝ }
 {
     match kind {
-        0 => b.move_to(verbs, points, point_at(numbers, 0)),
-        1 => b.line_to(verbs, points, point_at(numbers, 0)),
-        2 => b.quad_to(verbs, points, point_at(numbers, 0), point_at(numbers, 2)),
-        3 => b.cubic_to(
-            verbs,
-            points,
-            point_at(numbers, 0),
-            point_at(numbers, 2),
-            point_at(numbers, 4),
-        ),
-        4 => b.close(verbs, points),
-        5 => {
-            // Copies of its own, so that the other calls' state need not be in memory for this one, which isn't inlined.
-            let c = b;
-            let reply = c.conic_to(
-                verbs,
-                points,
-                point_at(numbers, 0),
-                point_at(numbers, 2),
-                numbers[4],
-            );
-            reply
-        }
+        0 => b.move_to(verbs, points, point_at(numbers, 0, 0)),
         6 => answer(b.with_fill_rule(FillRule::NonZero)),
         7 => answer(b.with_fill_rule(FillRule::EvenOdd)),
         _ => note(b, numbers),
@@ -117,41 +97,283 @@ fn one_if(refused: u8) -> usize
     if refused == 0 { 0 } else { 1 }
 }
 
+// Where the playing stands: the state, how many calls were played, the numbers that they took, and how many were refused.
+struct Run {
+    state: PathBuilder,
+    calls: usize,
+    at: usize,
+    refused: usize,
+}
+
+// ---- the calls that stand next, as long as they are of one kind
+
+fn play_lines(r: Run, kinds: &[u8], numbers: &[f32], verbs: &mut [u8], points: &mut [f32]) -> Run
+    requires { ⌜ Next 1 (now kinds) (now numbers) r ⌝ }
+    ensures { λ q. ⌜ Ran (now (kinds .entry)) (now (numbers .entry)) r (now (verbs .entry)) (now (points .entry)) q (now (verbs .exit)) (now (points .exit)) ⌝ }
+{
+    let mut state = r.state;
+    let mut i = r.calls;
+    let mut at = r.at;
+    let mut refused = r.refused;
+    while i < kinds.len() {
+        if kinds[i] != 1 {
+            return Run {
+                state,
+                calls: i,
+                at,
+                refused,
+            };
+        }
+        if numbers.len() - at < 2 {
+            return Run {
+                state,
+                calls: i,
+                at,
+                refused,
+            };
+        }
+        let p = point_at(numbers, at, 0);
+        let reply = state.line_to(verbs, points, p);
+        state = reply.state;
+        refused += one_if(reply.refused);
+        i += 1;
+        at += 2;
+    }
+    Run {
+        state,
+        calls: i,
+        at,
+        refused,
+    }
+}
+
+fn play_quads(r: Run, kinds: &[u8], numbers: &[f32], verbs: &mut [u8], points: &mut [f32]) -> Run
+    requires { ⌜ Next 2 (now kinds) (now numbers) r ⌝ }
+    ensures { λ q. ⌜ Ran (now (kinds .entry)) (now (numbers .entry)) r (now (verbs .entry)) (now (points .entry)) q (now (verbs .exit)) (now (points .exit)) ⌝ }
+{
+    let mut state = r.state;
+    let mut i = r.calls;
+    let mut at = r.at;
+    let mut refused = r.refused;
+    while i < kinds.len() {
+        if kinds[i] != 2 {
+            return Run {
+                state,
+                calls: i,
+                at,
+                refused,
+            };
+        }
+        if numbers.len() - at < 4 {
+            return Run {
+                state,
+                calls: i,
+                at,
+                refused,
+            };
+        }
+        let c = point_at(numbers, at, 0);
+        let p = point_at(numbers, at, 2);
+        let reply = state.quad_to(verbs, points, c, p);
+        state = reply.state;
+        refused += one_if(reply.refused);
+        i += 1;
+        at += 4;
+    }
+    Run {
+        state,
+        calls: i,
+        at,
+        refused,
+    }
+}
+
+fn play_cubics(r: Run, kinds: &[u8], numbers: &[f32], verbs: &mut [u8], points: &mut [f32]) -> Run
+    requires { ⌜ Next 3 (now kinds) (now numbers) r ⌝ }
+    ensures { λ q. ⌜ Ran (now (kinds .entry)) (now (numbers .entry)) r (now (verbs .entry)) (now (points .entry)) q (now (verbs .exit)) (now (points .exit)) ⌝ }
+{
+    let mut state = r.state;
+    let mut i = r.calls;
+    let mut at = r.at;
+    let mut refused = r.refused;
+    while i < kinds.len() {
+        if kinds[i] != 3 {
+            return Run {
+                state,
+                calls: i,
+                at,
+                refused,
+            };
+        }
+        if numbers.len() - at < 6 {
+            return Run {
+                state,
+                calls: i,
+                at,
+                refused,
+            };
+        }
+        let c = point_at(numbers, at, 0);
+        let d = point_at(numbers, at, 2);
+        let p = point_at(numbers, at, 4);
+        let reply = state.cubic_to(verbs, points, c, d, p);
+        state = reply.state;
+        refused += one_if(reply.refused);
+        i += 1;
+        at += 6;
+    }
+    Run {
+        state,
+        calls: i,
+        at,
+        refused,
+    }
+}
+
+fn play_closes(r: Run, kinds: &[u8], numbers: &[f32], verbs: &mut [u8], points: &mut [f32]) -> Run
+    requires { ⌜ Next 4 (now kinds) (now numbers) r ⌝ }
+    ensures { λ q. ⌜ Ran (now (kinds .entry)) (now (numbers .entry)) r (now (verbs .entry)) (now (points .entry)) q (now (verbs .exit)) (now (points .exit)) ⌝ }
+{
+    let mut state = r.state;
+    let mut i = r.calls;
+    let at = r.at;
+    let mut refused = r.refused;
+    while i < kinds.len() {
+        if kinds[i] != 4 {
+            return Run {
+                state,
+                calls: i,
+                at,
+                refused,
+            };
+        }
+        let reply = state.close(verbs, points);
+        state = reply.state;
+        refused += one_if(reply.refused);
+        i += 1;
+    }
+    Run {
+        state,
+        calls: i,
+        at,
+        refused,
+    }
+}
+
+fn play_conics(r: Run, kinds: &[u8], numbers: &[f32], verbs: &mut [u8], points: &mut [f32]) -> Run
+    requires { ⌜ Next 5 (now kinds) (now numbers) r ⌝ }
+    ensures { λ q. ⌜ Ran (now (kinds .entry)) (now (numbers .entry)) r (now (verbs .entry)) (now (points .entry)) q (now (verbs .exit)) (now (points .exit)) ⌝ }
+{
+    let mut state = r.state;
+    let mut i = r.calls;
+    let mut at = r.at;
+    let mut refused = r.refused;
+    while i < kinds.len() {
+        if kinds[i] != 5 {
+            return Run {
+                state,
+                calls: i,
+                at,
+                refused,
+            };
+        }
+        if numbers.len() - at < 5 {
+            return Run {
+                state,
+                calls: i,
+                at,
+                refused,
+            };
+        }
+        let c = point_at(numbers, at, 0);
+        let p = point_at(numbers, at, 2);
+        let w = numbers[at + 4];
+        let reply = state.conic_to(verbs, points, c, p, w);
+        state = reply.state;
+        refused += one_if(reply.refused);
+        i += 1;
+        at += 5;
+    }
+    Run {
+        state,
+        calls: i,
+        at,
+        refused,
+    }
+}
+
+// ---- the whole list
+
+// Plays one call of a kind that has no loop of its own. Where none stands there, the answer is what was given.
+fn play_one(r: Run, kind: u8, numbers: &[f32], verbs: &mut [u8], points: &mut [f32]) -> Run
+    requires { ⌜ Single kind × Counted (now numbers) r ⌝ }
+    ensures { λ q. ⌜ RanOne kind (now (numbers .entry)) r (now (verbs .entry)) (now (points .entry)) q (now (verbs .exit)) (now (points .exit)) ⌝ }
+{
+    let n = numbers_taken(kind);
+    let at = r.at;
+    if 8 < kind {
+        return r;
+    }
+    if numbers.len() - at < n {
+        return r;
+    }
+    let state = r.state;
+    let reply = play_kind(state, kind, &numbers[at..], verbs, points);
+    let next = reply.state;
+    Run {
+        state: next,
+        calls: r.calls + 1,
+        at: at + n,
+        refused: r.refused + one_if(reply.refused),
+    }
+}
+
+// Plays the calls that stand next, of this kind.
+fn play_run(
+    r: Run,
+    kind: u8,
+    kinds: &[u8],
+    numbers: &[f32],
+    verbs: &mut [u8],
+    points: &mut [f32],
+) -> Run
+    requires { ⌜ Next kind (now kinds) (now numbers) r ⌝ }
+    ensures { λ q. ⌜ Ran (now (kinds .entry)) (now (numbers .entry)) r (now (verbs .entry)) (now (points .entry)) q (now (verbs .exit)) (now (points .exit)) ⌝ }
+{
+    match kind {
+        1 => play_lines(r, kinds, numbers, verbs, points),
+        2 => play_quads(r, kinds, numbers, verbs, points),
+        3 => play_cubics(r, kinds, numbers, verbs, points),
+        4 => play_closes(r, kinds, numbers, verbs, points),
+        5 => play_conics(r, kinds, numbers, verbs, points),
+        _ => play_one(r, kind, numbers, verbs, points),
+    }
+}
+
 // Plays an encoded list of calls on a fresh builder over the lent buffers.
 pub fn replay(kinds: &[u8], numbers: &[f32], verbs: &mut [u8], points: &mut [f32]) -> Replayed
     ensures { λ r. ⌜ outcome r (now (verbs .exit)) (now (points .exit))
         ≡ replayed (now (kinds .entry)) (now (numbers .entry)) (now (verbs .entry)) (now (points .entry)) ⌝ }
 {
-    let mut state = PathBuilder::new();
+    let mut r = Run {
+        state: PathBuilder::new(),
+        calls: 0,
+        at: 0,
+        refused: 0,
+    };
     let mut i: usize = 0;
-    let mut at: usize = 0;
-    let mut refused: usize = 0;
     while i < kinds.len() {
         let kind = kinds[i];
-        let n = numbers_taken(kind);
-        if 8 < kind {
-            return Replayed {
-                state,
-                calls: i,
-                refused,
-            };
+        r = play_run(r, kind, kinds, numbers, verbs, points);
+        if r.calls == i {
+            break;
         }
-        if numbers.len() - at < n {
-            return Replayed {
-                state,
-                calls: i,
-                refused,
-            };
-        }
-        let reply = play_kind(state, kind, &numbers[at..], verbs, points);
-        state = reply.state;
-        refused += one_if(reply.refused);
-        i += 1;
-        at += n;
+        i = r.calls;
     }
+    let state = r.state;
     Replayed {
         state,
-        calls: i,
-        refused,
+        calls: r.calls,
+        refused: r.refused,
     }
 }

@@ -1,0 +1,113 @@
+-- A run of calls of one kind, of whatever kind: where it stands before each turn, and where it ends.
+--     begins, turned                  before the first turn; a turn
+--     stays, onward                   nothing played; a run behind another
+--     other-kind, too-few, list-over  the three ends; went-on, the one of a single call
+--     over                            the whole list was played
+-- Assumes nothing.
+use mathlib.Core.Path.{_≡_, refl, sym, ap, _∙_}
+use mathlib.Core.List.{List, []}
+use Prim.Native.Nat.{ℕ, _+_, _-_, _≤_, _<_}
+use native.Mathlib.Omega.{arith}
+use lib.ListN.{length, getD, drop}
+use lib.Ieee.{Float}
+use Rattle.builder.specs.declared.PathBuilder.{PathBuilder}
+use Rattle.builder.specs.declared.Reply.{Reply}
+use Rattle.builder.specs.declared.Call.{Call}
+use Rattle.builder.specs.Build as build
+use Rattle.builder.specs.Build.{fresh, called}
+use Rattle.claims.specs.Calls.{taken, callOf}
+use Rattle.claims.specs.Replay.{oneIf, told, replayed}
+use Rattle.claims.specs.declared.Run.{Run}
+use Rattle.claims.specs.Run.{standing, left, played, Next, Along, Ran}
+use Rattle.claims.proofs.Places.{no-kind, bad-kind, few-numbers, one-more}
+use Rattle.claims.proofs.Turns.{played-whole, played-none, turn, call-kept}
+
+abbrev pub stood : PathBuilder → ℕ → ℕ → ℕ → Run
+stood b i at refused = record { state = b; calls = i; at = at; refused = refused }
+
+pub stays : {ks : List ℕ} {ns : List Float} (r : Run) {vs : List ℕ} {fs : List Float} → r .calls ≤ length ks → r .at ≤ length ns → r .refused ≤ r .calls → Along ks ns r vs fs r vs fs
+stays r i at h = record { calls = i; on = omega arith; at = at; refused = h; bytes = refl; floats = refl; made = refl }
+
+pub onward : {ks : List ℕ} {ns : List Float} {r q p : Run} {vs vs' vs'' : List ℕ} {fs fs' fs'' : List Float} →
+    Along ks ns r vs fs q vs' fs' → Along ks ns q vs' fs' p vs'' fs'' → Along ks ns r vs fs p vs'' fs''
+onward s t =
+    record {
+      calls = t .calls;
+      on = omega (arith, s .on, t .on);
+      at = t .at;
+      refused = t .refused;
+      bytes = t .bytes ∙ s .bytes;
+      floats = t .floats ∙ s .floats;
+      made = t .made ∙ s .made;
+    }
+
+module _ {k : ℕ} {ks : List ℕ} {ns : List Float} {r : Run} (n : Next k ks ns r) where
+  pub begins : (vs : List ℕ) (fs : List Float) → Along ks ns r vs fs r vs fs
+  begins vs fs = stays r (omega (arith, n .calls)) (n .at) (n .refused)
+
+  -- a byte that is no kind
+  pub no-call : 8 < k → left ks ns (r .calls) (r .at) ≡ []
+  no-call h = bad-kind ks ns (r .calls) (r .at) (n .calls) (omega (arith, h, n .kind))
+
+module _ {ks : List ℕ} {ns : List Float} {r q : Run} {vs vs' : List ℕ} {fs fs' : List Float} (s : Along ks ns r vs fs q vs' fs') where
+  pub turned : (k : ℕ) → k ≤ 8 → q .calls < length ks → getD ks (q .calls) 0 ≡ k → taken k ≤ length ns - q .at →
+      (c : Call) (o : Reply) (vs'' : List ℕ) (fs'' : List Float) (at m : ℕ) →
+      build.outcome o vs'' fs'' ≡ called (q .state) vs' fs' c → c ≡ callOf k (drop (q .at) ns) → at ≡ q .at + taken k → (m ≡ oneIf (o .refused)) × (m ≤ 1) →
+      Along ks ns r vs fs (stood (o .state) (q .calls + 1) at (q .refused + m)) vs'' fs''
+  turned k good h kind room c o vs'' fs'' at m e d a t =
+      let l = one-more ks ns (q .calls) (q .at) h (omega (arith, good, kind)) (taken k) (ap taken (sym kind)) room in
+      let kept = call-kept (q .state) vs' fs' c o vs'' fs'' e in
+      record {
+        calls = omega (arith, h);
+        on = omega (arith, s .on);
+        at = omega (arith, s .at, a, room);
+        refused = omega (arith, s .refused, t .1);
+        bytes = kept .bytes ∙ s .bytes;
+        floats = kept .floats ∙ s .floats;
+        made =
+            ap (λ (x : ℕ). played (standing (o .state) vs'' fs'') (left ks ns (q .calls + 1) x) (q .calls + 1) (q .refused + m)) a
+            ∙ turn (q .state) vs' vs'' fs' fs'' c _ _ _ o (q .calls) (q .refused) m _ e (d ∙ ap (λ (j : ℕ). callOf j (drop (q .at) ns)) (sym kind)) (t .0) l (s .made);
+      }
+
+  -- some were played
+  pub went-on : r .calls < q .calls → Ran ks ns r vs fs q vs' fs'
+  went-on h = record { along = s; ended = λ e. absurd (omega (arith, e, h)) }
+
+  -- the next call is of another kind: some were played, for the first one is of this kind
+  pub other-kind : {k : ℕ} → Next k ks ns r → (getD ks (q .calls) 0 ≡ k → ⊥) → Ran ks ns r vs fs q vs' fs'
+  other-kind n h = record { along = s; ended = λ e. absurd (h (ap (λ (i : ℕ). getD ks i 0) e ∙ n .kind)) }
+
+  -- too few numbers for the next call
+  pub too-few : (k : ℕ) → k ≤ 8 → q .calls < length ks → getD ks (q .calls) 0 ≡ k → length ns - q .at < taken k → Ran ks ns r vs fs q vs' fs'
+  too-few k good h kind f =
+      record { along = s; ended = λ e. few-numbers ks ns (q .calls) (q .at) h (omega (arith, good, kind)) (taken k) (ap taken (sym kind)) f }
+
+  -- the list is over
+  pub list-over : length ks ≤ q .calls → Ran ks ns r vs fs q vs' fs'
+  list-over h = record { along = s; ended = λ e. no-kind ks ns (q .calls) (q .at) h }
+
+-- ---- the whole list
+
+-- it was played, and left r and these buffers
+pub record Over (ks : List ℕ) (ns : List Float) (vs : List ℕ) (fs : List Float) (r : Run) (vs' : List ℕ) (fs' : List Float) : Type 0 where
+  pub bytes : length vs' ≡ length vs
+  pub floats : length fs' ≡ length fs
+  pub made : told (standing (r .state) vs' fs') (r .calls) (r .refused) ≡ replayed ks ns vs fs
+
+pub over-as : {ks : List ℕ} {ns : List Float} {vs vs' us : List ℕ} {fs fs' gs : List Float} {r q : Run} → q ≡ r → us ≡ vs' → gs ≡ fs' →
+    Over ks ns vs fs r vs' fs' → Over ks ns vs fs q us gs
+over-as e f g o = rw (e, f, g) o
+
+-- nothing is left behind r
+pub over : {ks : List ℕ} {ns : List Float} {b : PathBuilder} {r : Run} {vs vs' : List ℕ} {fs fs' : List Float} → b ≡ fresh →
+    Along ks ns (stood b 0 0 0) vs fs r vs' fs' → left ks ns (r .calls) (r .at) ≡ [] → Over ks ns vs fs r vs' fs'
+over {ks} {ns} {b} {r} {vs} {vs'} {fs} {fs'} e s h =
+    record {
+      bytes = s .bytes;
+      floats = s .floats;
+      made =
+          played-none (standing (r .state) vs' fs') _ (r .calls) (r .refused) h
+          ∙ s .made
+          ∙ ap (λ (x : PathBuilder). played (standing x vs fs) (left ks ns 0 0) 0 0) e
+          ∙ played-whole ks ns vs fs;
+    }

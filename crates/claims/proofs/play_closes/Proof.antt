@@ -1,0 +1,82 @@
+-- `claims::play_closes` meets its contract. Assumes nothing.
+use mathlib.Core.Path.{refl}
+use Prim.Native.Nat.{_-_}
+use native.Mathlib.Omega.{arith}
+use lib.ListN.{length}
+use Rattle.claims.specs.Run.{Along}
+use Rattle.claims.proofs.Runs.{stood, begins, turned, other-kind, list-over}
+use borrow.Author.Needs.{needs}
+use Rattle.claims.proofs.play_closes.Statement.{statement}
+use Rattle.claims.proofs.play_closes.Tie as tie
+
+abbrev Inv-loop : tie.InvT-loop
+Inv-loop kinds numbers verbs₀ points₀ state₀ i₀ at refused₀ verbs points state i refused =
+    Along kinds numbers (stood state₀ i₀ at refused₀) verbs₀ points₀ (stood state i at refused) verbs points
+
+abbrev μ-loop : tie.MeasureT-loop
+μ-loop kinds numbers verbs₀ points₀ state₀ i₀ at refused₀ verbs points state i refused = length kinds - i
+
+loop-holds : tie.Need-loop-holds Inv-loop μ-loop
+loop-holds c = begins (c .before .before .before .before .before .pre) _ _
+
+shared-slice-read-if1 : tie.Need-shared-slice-read-if1 Inv-loop μ-loop
+shared-slice-read-if1 c = c .before .loop-test .taken
+
+same-length : tie.Need-same-length Inv-loop μ-loop
+same-length c = c .before .before .before .loop .inv .bytes
+
+same-length-2 : tie.Need-same-length-2 Inv-loop μ-loop
+same-length-2 c = c .before .before .before .loop .inv .floats
+
+returns : tie.Need-returns Inv-loop μ-loop
+returns c = other-kind (c .before .before .before .loop .inv) (c .before .before .before .before .before .before .before .before .before .pre) (c .if1 .taken)
+
+close-requires : tie.Need-close-requires Inv-loop μ-loop
+close-requires c κs = search needs
+
+one-if-requires : tie.Need-one-if-requires Inv-loop μ-loop
+one-if-requires c κs = search needs
+
+add-refused : tie.Need-add-refused Inv-loop μ-loop
+add-refused c = omega (arith, c .before .before .before .before .before .before .before .before .before .before .before .before .loop .inv .refused, c .before .before .before .before .before .before .before .before .before .before .before .loop-test .taken, c .one-if .ensures .1, c .before .before .before .before .before .before .before .before .before .before .before .before .before .before .before .before .before .before .good)
+
+add-i : tie.Need-add-i Inv-loop μ-loop
+add-i c = omega (arith, c .before .before .before .before .before .before .before .before .before .before .before .loop-test .taken, c .before .before .before .before .before .before .before .before .before .before .before .before .before .before .before .before .before .before .good)
+
+loop-less : tie.Need-loop-less Inv-loop μ-loop
+loop-less c = omega (arith, c .before .before .before .before .before .before .before .before .before .before .before .loop-test .taken)
+
+loop-again : tie.Need-loop-again Inv-loop μ-loop
+loop-again c =
+    turned (c .before .before .before .before .before .before .before .before .before .before .before .before .loop .inv) 4 (omega arith) (c .before .before .before .before .before .before .before .before .before .before .before .loop-test .taken) (c .before .before .before .before .before .before .before .before .before .if1 .left) (omega arith) _ _ _ _ (c .before .before .before .before .before .before .before .before .before .before .before .before .before .before .before .before .before .before .args .r .at) _
+    (c .before .before .before .before .before .before .close .ensures) refl (omega arith) (c .one-if .ensures)
+
+same-length-3 : tie.Need-same-length-3 Inv-loop μ-loop
+same-length-3 c = c .before .loop .inv .bytes
+
+same-length-4 : tie.Need-same-length-4 Inv-loop μ-loop
+same-length-4 c = c .before .loop .inv .floats
+
+returns-2 : tie.Need-returns-2 Inv-loop μ-loop
+returns-2 c = list-over (c .before .loop .inv) (c .loop-test .left)
+
+pub play-closes-spec : {M : Type 1} → statement M
+play-closes-spec =
+    tie.close
+    (tie.spec
+    Inv-loop
+    μ-loop
+    loop-holds
+    shared-slice-read-if1
+    same-length
+    same-length-2
+    returns
+    close-requires
+    one-if-requires
+    add-refused
+    add-i
+    loop-less
+    loop-again
+    same-length-3
+    same-length-4
+    returns-2)

@@ -1,2 +1,0 @@
-pub mod Laps
-pub mod Out
