@@ -150,16 +150,17 @@ fn is_moderate(x: f32) -> bool
     1e-30 <= x && x <= 1e30
 }
 
-// The same, with no root taken where the squares are clearly apart: the roots would take most of the time.
+// The same, with no root taken where the squares are clearly apart: the roots would take most of the time. The gap is tested first: where a test stands behind
+// the sums that it takes, the compiler works on both coordinates at once.
 fn is_within(chord: f32, gap: f32) -> bool
     ensures { λ r. ⌜ r ≡ within (squareRoot binary32 chord) (squareRoot binary32 gap) ⌝ }
 {
-    if is_moderate(chord) {
-        if 0.000001005 * chord <= gap {
-            return false;
-        }
-        if gap <= 0.000000995 * chord {
-            if 1e-30 <= gap {
+    if 1e-30 <= gap {
+        if is_moderate(chord) {
+            if 0.000001005 * chord <= gap {
+                return false;
+            }
+            if gap <= 0.000000995 * chord {
                 return true;
             }
         }

@@ -19,13 +19,13 @@ is-moderate-requires c κs = search needs
 
 returns : tie.Need-returns
 returns c =
-    let s = c .before .before .before in
-    clear-far (s .args .chord) (fits-chord s) (sym (c .before .before .is-moderate .ensures) ∙ c .before .if1 .taken) (s .args .gap) (fits-gap s) (c .if2 .taken)
+    let s = c .before .before .before .before in
+    clear-far (s .args .chord) (fits-chord s) (sym (c .before .before .is-moderate .ensures) ∙ c .before .if2 .taken) (s .args .gap) (fits-gap s) (c .if3 .taken)
 
 returns-2 : tie.Need-returns-2
 returns-2 c =
     let s = c .before .before .before .before .before in
-    clear-near (s .args .chord) (fits-chord s) (sym (c .before .before .before .before .is-moderate .ensures) ∙ c .before .before .before .if1 .taken) (s .args .gap) (fits-gap s) (c .if4 .taken) (c .before .if3 .taken)
+    clear-near (s .args .chord) (fits-chord s) (sym (c .before .before .before .is-moderate .ensures) ∙ c .before .before .if2 .taken) (s .args .gap) (fits-gap s) (c .before .before .before .before .if1 .taken) (c .if4 .taken)
 
 is-within-by-roots-requires : tie.Need-is-within-by-roots-requires
 is-within-by-roots-requires c κs = search needs
