@@ -1,9 +1,9 @@
 -- A conic's halves as arrays of three points, and quads laid in the buffers. Definitions only.
 use mathlib.Core.Path.{_≡_}
-use Prim.Native.Nat.{ℕ, zero, suc}
+use Prim.Native.Nat.{ℕ, zero, suc, _+_, _-_, _≤_}
 use mathlib.Core.Bool.{Bool, true, false, cond, _&&_}
 use mathlib.Core.List.{List, [], _∷_}
-use lib.ListN.{getD, drop, length}
+use lib.ListN.{getD, drop, length, replicate}
 use lib.Seq.{sets}
 use lib.Ieee.{Float, nan, binary32, ofBits, lt, le}
 use Rattle.float.specs.Arith.{plus, times, f0, f1, f2}
@@ -70,6 +70,12 @@ pub record Kept (k : ℕ) (w : Float) (ws ws' : List Float) : Type 0 where
 pub record Put (qs : List Segment) (r : ℕ) (fs : List Float) (f : ℕ) (fs' : List Float) : Type 0 where
   pub number : r ≡ length qs
   pub floats : fs' ≡ sets fs f (flat (allPoints qs))
+
+-- of n verbs of quads from v on, i stood in vs and r stand in vs': what is left, stored too, makes the same of both
+pub record VerbsLeft (v n i : ℕ) (vs : List ℕ) (r : ℕ) (vs' : List ℕ) : Type 0 where
+  pub most : r ≤ n
+  pub same : length vs' ≡ length vs
+  pub left : sets vs' (v + r) (replicate (n - r) 2) ≡ sets vs (v + i) (replicate (n - i) 2)
 
 -- the list of quads has been stored, verbs from v on and floats from f on, and r is its length
 pub record Bent (qs : List Segment) (r : ℕ) (vs : List ℕ) (v : ℕ) (vs' : List ℕ) (fs : List Float) (f : ℕ) (fs' : List Float) : Type 0 where

@@ -8,7 +8,7 @@ ghost use lib.Seq.{sets};
 ghost use lib.Ieee.{binary32};
 ghost use Rattle.float.specs.Root.{squareRoot};
 ghost use Rattle.conic.specs.Conic.{straight, square, gapBy, within, nearOne, nearMidBy, leftOf, rightOf, middle, halfWeight, quads};
-ghost use Rattle.conic.specs.Lay.{Levels, Kept, fromOf, ctrlOf, toOf, halfOf, leftHalf, rightHalf, moderate, single, singleBy, splitsLeft, pieces, Put, Bent};
+ghost use Rattle.conic.specs.Lay.{Levels, Kept, fromOf, ctrlOf, toOf, halfOf, leftHalf, rightHalf, moderate, single, singleBy, splitsLeft, pieces, Put, VerbsLeft, Bent};
 ghost use Rattle.path.specs.declared.Segment.the-variants.{Quad};
 use vec2::Vec2;
 
@@ -219,12 +219,27 @@ fn put_quad(h: [[f32; 2]; 3], floats: &mut [f32], f: usize) -> usize
     1
 }
 
-// Lays n verbs of quads from v on.
+// Lays the verb of quad i from v on, if there are so many, and says which is next.
+fn put_next(verbs: &mut [u8], v: usize, i: usize, n: usize) -> usize
+    requires { ⌜ (i ≤ n) × (v + n ≤ length (now verbs)) ⌝ }
+    ensures { λ r. ⌜ VerbsLeft v n i (now (verbs .entry)) r (now (verbs .exit)) ⌝ }
+{
+    if i < n {
+        verbs[v + i] = 2;
+        return i + 1;
+    }
+    i
+}
+
+// Lays n verbs of quads from v on. The first four one by one: most conics have no more, and the compiler makes of the loop a call that takes longer than they do.
 fn put_verbs(verbs: &mut [u8], v: usize, n: usize)
     requires { ⌜ v + n ≤ length (now verbs) ⌝ }
     ensures { λ _. ⌜ now (verbs .exit) ≡ sets (now (verbs .entry)) v (replicate n 2) ⌝ }
 {
-    let mut i: usize = 0;
+    let first = put_next(verbs, v, 0, n);
+    let second = put_next(verbs, v, first, n);
+    let third = put_next(verbs, v, second, n);
+    let mut i = put_next(verbs, v, third, n);
     while i < n {
         verbs[v + i] = 2;
         i += 1;
