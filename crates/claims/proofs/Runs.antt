@@ -1,13 +1,18 @@
 -- A run of calls of one kind, of whatever kind: where it stands before each turn, and where it ends.
 --     begins, turned                  before the first turn; a turn
 --     stays, onward                   nothing played; a run behind another
---     other-kind, too-few, list-over  the three ends; went-on, the one of a single call
+--     told-next, told-none            what the loop's test finds
+--     run-over                        the end of a run; went-on and too-few, those of a single call
 --     over                            the whole list was played
 -- Assumes nothing.
 use mathlib.Core.Path.{_≡_, refl, sym, ap, _∙_}
+use mathlib.Core.Logic.{_⊎_, inl, inr}
+use mathlib.Core.Bool.{Bool, false, true≢false}
 use mathlib.Core.List.{List, []}
 use Prim.Native.Nat.{ℕ, _+_, _-_, _≤_, _<_}
 use native.Mathlib.Omega.{arith}
+use borrow.Author.Tests.{leb-true, leb-false}
+use lib.Dec.{leb}
 use lib.ListN.{length, getD, drop}
 use lib.Ieee.{Float}
 use Rattle.builder.specs.declared.PathBuilder.{PathBuilder}
@@ -18,7 +23,7 @@ use Rattle.builder.specs.Build.{fresh, called}
 use Rattle.claims.specs.Calls.{taken, callOf}
 use Rattle.claims.specs.Replay.{oneIf, told, replayed}
 use Rattle.claims.specs.declared.Run.{Run}
-use Rattle.claims.specs.Run.{standing, left, played, Next, Along, Ran}
+use Rattle.claims.specs.Run.{standing, left, played, Next, Follows, Along, Ran}
 use Rattle.claims.proofs.Places.{no-kind, bad-kind, few-numbers, one-more}
 use Rattle.claims.proofs.Turns.{played-whole, played-none, turn, call-kept}
 
@@ -49,6 +54,15 @@ module _ {k : ℕ} {ks : List ℕ} {ns : List Float} {r : Run} (n : Next k ks ns
   pub no-call : 8 < k → left ks ns (r .calls) (r .at) ≡ []
   no-call h = bad-kind ks ns (r .calls) (r .at) (n .calls) (omega (arith, h, n .kind))
 
+-- where the kind is right, the numbers decide; no call follows where it is not
+module _ {k i : ℕ} {ks : List ℕ} (ns : List Float) (n at : ℕ) where
+  pub told-next : i < length ks → getD ks i 0 ≡ k → Follows k n ks i ns at (leb n (length ns - at))
+  told-next h e = record { on = λ t. (h, e, leb-true n (length ns - at) t); otherwise = λ t. inr (inr (h, e, leb-false n (length ns - at) t)) }
+
+  pub told-none : (length ks ≤ i) ⊎ (getD ks i 0 ≡ k → ⊥) → Follows k n ks i ns at false
+  told-none (inl h) = record { on = λ t. absurd (true≢false (sym t)); otherwise = λ t. inl h }
+  told-none (inr h) = record { on = λ t. absurd (true≢false (sym t)); otherwise = λ t. inr (inl h) }
+
 module _ {ks : List ℕ} {ns : List Float} {r q : Run} {vs vs' : List ℕ} {fs fs' : List Float} (s : Along ks ns r vs fs q vs' fs') where
   pub turned : (k : ℕ) → k ≤ 8 → q .calls < length ks → getD ks (q .calls) 0 ≡ k → taken k ≤ length ns - q .at →
       (c : Call) (o : Reply) (vs'' : List ℕ) (fs'' : List Float) (at m : ℕ) →
@@ -73,18 +87,19 @@ module _ {ks : List ℕ} {ns : List Float} {r q : Run} {vs vs' : List ℕ} {fs f
   pub went-on : r .calls < q .calls → Ran ks ns r vs fs q vs' fs'
   went-on h = record { along = s; ended = λ e. absurd (omega (arith, e, h)) }
 
-  -- the next call is of another kind: some were played, for the first one is of this kind
-  pub other-kind : {k : ℕ} → Next k ks ns r → (getD ks (q .calls) 0 ≡ k → ⊥) → Ran ks ns r vs fs q vs' fs'
-  other-kind n h = record { along = s; ended = λ e. absurd (h (ap (λ (i : ℕ). getD ks i 0) e ∙ n .kind)) }
-
-  -- too few numbers for the next call
+  -- too few numbers for a single call
   pub too-few : (k : ℕ) → k ≤ 8 → q .calls < length ks → getD ks (q .calls) 0 ≡ k → length ns - q .at < taken k → Ran ks ns r vs fs q vs' fs'
   too-few k good h kind f =
       record { along = s; ended = λ e. few-numbers ks ns (q .calls) (q .at) h (omega (arith, good, kind)) (taken k) (ap taken (sym kind)) f }
 
-  -- the list is over
-  pub list-over : length ks ≤ q .calls → Ran ks ns r vs fs q vs' fs'
-  list-over h = record { along = s; ended = λ e. no-kind ks ns (q .calls) (q .at) h }
+  -- no call of kind k follows: the list is over, or some were played, for the first one is of this kind, or there are too few numbers
+  pub run-over : (k : ℕ) → k ≤ 8 → Next k ks ns r → {t : Bool} → Follows k (taken k) ks (q .calls) ns (q .at) t → t ≡ false → Ran ks ns r vs fs q vs' fs'
+  run-over k good n f e = record { along = s; ended = λ same. end same (f .otherwise e) }
+    where
+      end : q .calls ≡ r .calls → (length ks ≤ q .calls) ⊎ ((getD ks (q .calls) 0 ≡ k → ⊥) ⊎ ((q .calls < length ks) × (getD ks (q .calls) 0 ≡ k) × (length ns - q .at < taken k))) → left ks ns (q .calls) (q .at) ≡ []
+      end same (inl h) = no-kind ks ns (q .calls) (q .at) h
+      end same (inr (inl h)) = absurd (h (ap (λ (i : ℕ). getD ks i 0) same ∙ n .kind))
+      end same (inr (inr (h, kind, few))) = few-numbers ks ns (q .calls) (q .at) h (omega (arith, good, kind)) (taken k) (ap taken (sym kind)) few
 
 -- ---- the whole list
 

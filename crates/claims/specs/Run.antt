@@ -1,8 +1,9 @@
 -- The playing of an encoded list in runs: where it stands, and what a run of calls does. Definitions only.
 use mathlib.Core.Path.{_≡_}
 use mathlib.Core.Logic.{_⊎_}
+use mathlib.Core.Bool.{Bool, true, false}
 use mathlib.Core.List.{List, []}
-use Prim.Native.Nat.{ℕ, _+_, _≤_, _<_}
+use Prim.Native.Nat.{ℕ, _+_, _-_, _≤_, _<_}
 use lib.ListN.{length, getD, drop}
 use lib.Ieee.{Float}
 use Rattle.builder.specs.declared.PathBuilder.{PathBuilder}
@@ -43,6 +44,11 @@ pub record Next (k : ℕ) (ks : List ℕ) (ns : List Float) (r : Run) : Type 0 w
   pub at : r .at ≤ length ns
   pub refused : r .refused ≤ r .calls
   pub kind : getD ks (r .calls) 0 ≡ k
+
+-- t tells whether the next call is of kind k, with n numbers; where not, the list is over, the next kind is another, or there are too few numbers
+pub record Follows (k n : ℕ) (ks : List ℕ) (i : ℕ) (ns : List Float) (at : ℕ) (t : Bool) : Type 0 where
+  pub on : t ≡ true → (i < length ks) × (getD ks i 0 ≡ k) × (n ≤ length ns - at)
+  pub otherwise : t ≡ false → (length ks ≤ i) ⊎ ((getD ks i 0 ≡ k → ⊥) ⊎ ((i < length ks) × (getD ks i 0 ≡ k) × (length ns - at < n)))
 
 -- From r and these buffers some calls were played, which led to q and those: what is left then makes the same of them.
 pub record Along (ks : List ℕ) (ns : List Float) (r : Run) (vs : List ℕ) (fs : List Float) (q : Run) (vs' : List ℕ) (fs' : List Float) : Type 0 where

@@ -8,7 +8,7 @@ ghost use Rattle.builder.specs.Build.{called};
 ghost use Rattle.claims.specs.Calls as calls;
 ghost use Rattle.claims.specs.Calls.{taken, point, callOf};
 ghost use Rattle.claims.specs.Replay.{oneIf, outcome, replayed};
-ghost use Rattle.claims.specs.Run.{Single, Counted, Next, Ran, RanOne};
+ghost use Rattle.claims.specs.Run.{Single, Counted, Next, Follows, Ran, RanOne};
 use builder::PathBuilder;
 use builder::Reply;
 use path::FillRule;
@@ -107,6 +107,19 @@ struct Run {
 
 // ---- the calls that stand next, as long as they are of one kind
 
+// Whether the next call is of this kind, with the n numbers that it takes.
+fn is_next(kind: u8, n: usize, kinds: &[u8], i: usize, numbers: &[f32], at: usize) -> bool
+    requires { ⌜ at ≤ length (now numbers) ⌝ }
+    ensures { λ r. ⌜ Follows kind n (now (kinds .entry)) i (now (numbers .entry)) at r ⌝ }
+{
+    if i < kinds.len() {
+        if kinds[i] == kind {
+            return n <= numbers.len() - at;
+        }
+    }
+    false
+}
+
 fn play_lines(r: Run, kinds: &[u8], numbers: &[f32], verbs: &mut [u8], points: &mut [f32]) -> Run
     requires { ⌜ Next 1 (now kinds) (now numbers) r ⌝ }
     ensures { λ q. ⌜ Ran (now (kinds .entry)) (now (numbers .entry)) r (now (verbs .entry)) (now (points .entry)) q (now (verbs .exit)) (now (points .exit)) ⌝ }
@@ -115,23 +128,7 @@ fn play_lines(r: Run, kinds: &[u8], numbers: &[f32], verbs: &mut [u8], points: &
     let mut i = r.calls;
     let mut at = r.at;
     let mut refused = r.refused;
-    while i < kinds.len() {
-        if kinds[i] != 1 {
-            return Run {
-                state,
-                calls: i,
-                at,
-                refused,
-            };
-        }
-        if numbers.len() - at < 2 {
-            return Run {
-                state,
-                calls: i,
-                at,
-                refused,
-            };
-        }
+    while is_next(1, 2, kinds, i, numbers, at) {
         let p = point_at(numbers, at, 0);
         let reply = state.line_to(verbs, points, p);
         state = reply.state;
@@ -155,23 +152,7 @@ fn play_quads(r: Run, kinds: &[u8], numbers: &[f32], verbs: &mut [u8], points: &
     let mut i = r.calls;
     let mut at = r.at;
     let mut refused = r.refused;
-    while i < kinds.len() {
-        if kinds[i] != 2 {
-            return Run {
-                state,
-                calls: i,
-                at,
-                refused,
-            };
-        }
-        if numbers.len() - at < 4 {
-            return Run {
-                state,
-                calls: i,
-                at,
-                refused,
-            };
-        }
+    while is_next(2, 4, kinds, i, numbers, at) {
         let c = point_at(numbers, at, 0);
         let p = point_at(numbers, at, 2);
         let reply = state.quad_to(verbs, points, c, p);
@@ -196,23 +177,7 @@ fn play_cubics(r: Run, kinds: &[u8], numbers: &[f32], verbs: &mut [u8], points: 
     let mut i = r.calls;
     let mut at = r.at;
     let mut refused = r.refused;
-    while i < kinds.len() {
-        if kinds[i] != 3 {
-            return Run {
-                state,
-                calls: i,
-                at,
-                refused,
-            };
-        }
-        if numbers.len() - at < 6 {
-            return Run {
-                state,
-                calls: i,
-                at,
-                refused,
-            };
-        }
+    while is_next(3, 6, kinds, i, numbers, at) {
         let c = point_at(numbers, at, 0);
         let d = point_at(numbers, at, 2);
         let p = point_at(numbers, at, 4);
@@ -238,15 +203,7 @@ fn play_closes(r: Run, kinds: &[u8], numbers: &[f32], verbs: &mut [u8], points: 
     let mut i = r.calls;
     let at = r.at;
     let mut refused = r.refused;
-    while i < kinds.len() {
-        if kinds[i] != 4 {
-            return Run {
-                state,
-                calls: i,
-                at,
-                refused,
-            };
-        }
+    while is_next(4, 0, kinds, i, numbers, at) {
         let reply = state.close(verbs, points);
         state = reply.state;
         refused += one_if(reply.refused);
@@ -268,23 +225,7 @@ fn play_conics(r: Run, kinds: &[u8], numbers: &[f32], verbs: &mut [u8], points: 
     let mut i = r.calls;
     let mut at = r.at;
     let mut refused = r.refused;
-    while i < kinds.len() {
-        if kinds[i] != 5 {
-            return Run {
-                state,
-                calls: i,
-                at,
-                refused,
-            };
-        }
-        if numbers.len() - at < 5 {
-            return Run {
-                state,
-                calls: i,
-                at,
-                refused,
-            };
-        }
+    while is_next(5, 5, kinds, i, numbers, at) {
         let c = point_at(numbers, at, 0);
         let p = point_at(numbers, at, 2);
         let w = numbers[at + 4];

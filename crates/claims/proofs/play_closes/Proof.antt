@@ -4,7 +4,7 @@ use Prim.Native.Nat.{_-_}
 use native.Mathlib.Omega.{arith}
 use lib.ListN.{length}
 use Rattle.claims.specs.Run.{Along}
-use Rattle.claims.proofs.Runs.{stood, begins, turned, other-kind, list-over}
+use Rattle.claims.proofs.Runs.{stood, begins, turned, run-over}
 use borrow.Author.Needs.{needs}
 use Rattle.claims.proofs.play_closes.Statement.{statement}
 use Rattle.claims.proofs.play_closes.Tie as tie
@@ -19,17 +19,8 @@ abbrev μ-loop : tie.MeasureT-loop
 loop-holds : tie.Need-loop-holds Inv-loop μ-loop
 loop-holds c = begins (c .before .before .before .before .before .pre) _ _
 
-shared-slice-read-if1 : tie.Need-shared-slice-read-if1 Inv-loop μ-loop
-shared-slice-read-if1 c = c .before .loop-test .taken
-
-same-length : tie.Need-same-length Inv-loop μ-loop
-same-length c = c .before .before .before .loop .inv .bytes
-
-same-length-2 : tie.Need-same-length-2 Inv-loop μ-loop
-same-length-2 c = c .before .before .before .loop .inv .floats
-
-returns : tie.Need-returns Inv-loop μ-loop
-returns c = other-kind (c .before .before .before .loop .inv) (c .before .before .before .before .before .before .before .before .before .pre) (c .if1 .taken)
+is-next-requires : tie.Need-is-next-requires Inv-loop μ-loop
+is-next-requires c κs = c .loop .inv .at
 
 close-requires : tie.Need-close-requires Inv-loop μ-loop
 close-requires c κs = search needs
@@ -38,27 +29,27 @@ one-if-requires : tie.Need-one-if-requires Inv-loop μ-loop
 one-if-requires c κs = search needs
 
 add-refused : tie.Need-add-refused Inv-loop μ-loop
-add-refused c = omega (arith, c .before .before .before .before .before .before .before .before .before .before .before .before .loop .inv .refused, c .before .before .before .before .before .before .before .before .before .before .before .loop-test .taken, c .one-if .ensures .1, c .before .before .before .before .before .before .before .before .before .before .before .before .before .before .before .before .before .before .good)
+add-refused c = omega (arith, c .before .before .before .before .before .before .before .before .before .before .before .loop .inv .refused, c .before .before .before .before .before .before .before .before .before .before .is-next .ensures .on (c .before .before .before .before .before .before .before .before .before .if1 .taken) .0, c .one-if .ensures .1, c .before .before .before .before .before .before .before .before .before .before .before .before .before .before .before .before .before .good)
 
 add-i : tie.Need-add-i Inv-loop μ-loop
-add-i c = omega (arith, c .before .before .before .before .before .before .before .before .before .before .before .loop-test .taken, c .before .before .before .before .before .before .before .before .before .before .before .before .before .before .before .before .before .before .good)
+add-i c = omega (arith, c .before .before .before .before .before .before .before .before .before .before .is-next .ensures .on (c .before .before .before .before .before .before .before .before .before .if1 .taken) .0, c .before .before .before .before .before .before .before .before .before .before .before .before .before .before .before .before .before .good)
 
 loop-less : tie.Need-loop-less Inv-loop μ-loop
-loop-less c = omega (arith, c .before .before .before .before .before .before .before .before .before .before .before .loop-test .taken)
+loop-less c = omega (arith, c .before .before .before .before .before .before .before .before .before .before .is-next .ensures .on (c .before .before .before .before .before .before .before .before .before .if1 .taken) .0)
 
 loop-again : tie.Need-loop-again Inv-loop μ-loop
 loop-again c =
-    turned (c .before .before .before .before .before .before .before .before .before .before .before .before .loop .inv) 4 (omega arith) (c .before .before .before .before .before .before .before .before .before .before .before .loop-test .taken) (c .before .before .before .before .before .before .before .before .before .if1 .left) (omega arith) _ _ _ _ (c .before .before .before .before .before .before .before .before .before .before .before .before .before .before .before .before .before .before .args .r .at) _
-    (c .before .before .before .before .before .before .close .ensures) refl (omega arith) (c .one-if .ensures)
+    let f = c .before .before .before .before .before .before .before .before .before .before .is-next .ensures .on (c .before .before .before .before .before .before .before .before .before .if1 .taken) in
+    turned (c .before .before .before .before .before .before .before .before .before .before .before .loop .inv) 4 (omega arith) (f .0) (f .1) (f .2) _ _ _ _ (c .before .before .before .before .before .before .before .before .before .before .before .before .before .before .before .before .before .args .r .at) _ (c .before .before .before .before .before .before .close .ensures) refl (omega arith) (c .one-if .ensures)
 
-same-length-3 : tie.Need-same-length-3 Inv-loop μ-loop
-same-length-3 c = c .before .loop .inv .bytes
+same-length : tie.Need-same-length Inv-loop μ-loop
+same-length c = c .before .before .loop .inv .bytes
 
-same-length-4 : tie.Need-same-length-4 Inv-loop μ-loop
-same-length-4 c = c .before .loop .inv .floats
+same-length-2 : tie.Need-same-length-2 Inv-loop μ-loop
+same-length-2 c = c .before .before .loop .inv .floats
 
-returns-2 : tie.Need-returns-2 Inv-loop μ-loop
-returns-2 c = list-over (c .before .loop .inv) (c .loop-test .left)
+returns : tie.Need-returns Inv-loop μ-loop
+returns c = run-over (c .before .before .loop .inv) 4 (omega arith) (c .before .before .before .before .before .before .before .before .pre) (c .before .is-next .ensures) (c .if1 .left)
 
 pub play-closes-spec : {M : Type 1} → statement M
 play-closes-spec =
@@ -67,16 +58,13 @@ play-closes-spec =
     Inv-loop
     μ-loop
     loop-holds
-    shared-slice-read-if1
-    same-length
-    same-length-2
-    returns
+    is-next-requires
     close-requires
     one-if-requires
     add-refused
     add-i
     loop-less
     loop-again
-    same-length-3
-    same-length-4
-    returns-2)
+    same-length
+    same-length-2
+    returns)
