@@ -2,14 +2,15 @@
 --     begins, turned                  before the first turn; a turn
 --     stays, onward                   nothing played; a run behind another
 --     told-next, told-none            what the loop's test finds
---     run-over                        the end of a run; went-on and too-few, those of a single call
+--     run-over                        the end of a run; went-on and too-few, those of a single call; told-one, that of one without a buffer
 --     over                            the whole list was played
 -- Assumes nothing.
-use mathlib.Core.Path.{_≡_, refl, sym, ap, _∙_}
+use mathlib.Core.Path.{_≡_, refl, sym, ap, subst, _∙_}
 use mathlib.Core.Logic.{_⊎_, inl, inr}
 use mathlib.Core.Bool.{Bool, false, true≢false}
 use mathlib.Core.List.{List, []}
 use Prim.Native.Nat.{ℕ, _+_, _-_, _≤_, _<_}
+use native.Mathlib.Nat.{add-zero}
 use native.Mathlib.Omega.{arith}
 use borrow.Author.Tests.{leb-true, leb-false}
 use lib.Dec.{leb}
@@ -19,12 +20,14 @@ use Rattle.builder.specs.declared.PathBuilder.{PathBuilder}
 use Rattle.builder.specs.declared.Reply.{Reply}
 use Rattle.builder.specs.declared.Call.{Call}
 use Rattle.builder.specs.Build as build
-use Rattle.builder.specs.Build.{fresh, called}
+use Rattle.builder.specs.Build.{fresh, answered, told, called}
 use Rattle.claims.specs.Calls.{taken, callOf}
-use Rattle.claims.specs.Replay.{oneIf, told, replayed}
+use Rattle.claims.specs.Replay as replay
+use Rattle.claims.specs.Replay.{oneIf, replayed}
 use Rattle.claims.specs.declared.Run.{Run}
 use Rattle.claims.specs.Run.{standing, left, played, Next, Follows, Along, Ran}
 use Rattle.claims.proofs.Places.{no-kind, bad-kind, few-numbers, one-more}
+use Rattle.claims.proofs.Tables.{takes-no-buffer, told-called}
 use Rattle.claims.proofs.Turns.{played-whole, played-none, turn, call-kept}
 
 abbrev pub stood : PathBuilder → ℕ → ℕ → ℕ → Run
@@ -101,13 +104,23 @@ module _ {ks : List ℕ} {ns : List Float} {r q : Run} {vs vs' : List ℕ} {fs f
       end same (inr (inl h)) = absurd (h (ap (λ (i : ℕ). getD ks i 0) same ∙ n .kind))
       end same (inr (inr (h, kind, few))) = few-numbers ks ns (q .calls) (q .at) h (omega (arith, good, kind)) (taken k) (ap taken (sym kind)) few
 
+-- a single call that takes no buffer
+pub told-one : {k : ℕ} {ks : List ℕ} {ns : List Float} {r : Run} → Next k ks ns r → 5 < k → k ≤ 8 → taken k ≤ length ns - r .at → (vs : List ℕ) (fs : List Float) (s : PathBuilder) (at : ℕ) →
+    s ≡ told (r .state) (callOf k (drop (r .at) ns)) → at ≡ r .at + taken k → Ran ks ns r vs fs (stood s (r .calls + 1) at (r .refused)) vs fs
+told-one {k} {ks} {ns} {r} n h good room vs fs s at e a =
+    let c = callOf k (drop (r .at) ns) in
+    let o : build.outcome (answered s) vs fs ≡ called (r .state) vs fs c = ap (λ (x : PathBuilder). build.outcome (answered x) vs fs) e ∙ told-called (r .state) vs fs c (takes-no-buffer k h good (drop (r .at) ns)) in
+    let none : (_≡_ {A = ℕ} 0 0) × (0 ≤ 1) = (refl, omega arith) in
+    let q = went-on (turned (begins n vs fs) k good (n .calls) (n .kind) room c (answered s) vs fs at 0 o refl a none) (omega arith) in
+    subst (λ (x : ℕ). Ran ks ns r vs fs (stood s (r .calls + 1) at x) vs fs) (add-zero (r .refused)) q
+
 -- ---- the whole list
 
 -- it was played, and left r and these buffers
 pub record Over (ks : List ℕ) (ns : List Float) (vs : List ℕ) (fs : List Float) (r : Run) (vs' : List ℕ) (fs' : List Float) : Type 0 where
   pub bytes : length vs' ≡ length vs
   pub floats : length fs' ≡ length fs
-  pub made : told (standing (r .state) vs' fs') (r .calls) (r .refused) ≡ replayed ks ns vs fs
+  pub made : replay.told (standing (r .state) vs' fs') (r .calls) (r .refused) ≡ replayed ks ns vs fs
 
 pub over-as : {ks : List ℕ} {ns : List Float} {vs vs' us : List ℕ} {fs fs' gs : List Float} {r q : Run} → q ≡ r → us ≡ vs' → gs ≡ fs' →
     Over ks ns vs fs r vs' fs' → Over ks ns vs fs q us gs

@@ -1,8 +1,8 @@
 -- The numbers that a call of each kind takes, and the call of each kind. Assumes nothing.
 use mathlib.Core.Path.{_≡_, refl, sym, ap, _∙_}
-use mathlib.Core.Logic.{inl, inr}
+use mathlib.Core.Bool.{false}
 use mathlib.Core.List.{List}
-use Prim.Native.Nat.{ℕ, zero, suc, _≤_}
+use Prim.Native.Nat.{ℕ, zero, suc, _≤_, _<_}
 use native.Mathlib.Omega.{arith}
 use lib.Ieee.{Float}
 use Rattle.claims.specs.Replay.{oneIf}
@@ -10,9 +10,8 @@ use Rattle.vec2.specs.declared.Vec2.{Vec2}
 use Rattle.builder.specs.declared.PathBuilder.{PathBuilder}
 use Rattle.builder.specs.declared.Call.{Call}
 use Rattle.builder.specs.declared.Call.the-variants.{ConicTo, CubicTo, AsRoundedRect}
-use Rattle.builder.specs.Build.{Outcome, called}
+use Rattle.builder.specs.Build.{outcome, answered, told, buffered, called}
 use Rattle.claims.specs.Calls.{taken, number, point, note, callOf}
-use Rattle.claims.specs.Run.{Single}
 
 pub takes-none : (k : ℕ) → (k ≡ 0 → ⊥) → (k ≡ 1 → ⊥) → (k ≡ 2 → ⊥) → (k ≡ 3 → ⊥) → (k ≡ 5 → ⊥) → (k ≡ 8 → ⊥) → taken k ≡ 0
 takes-none zero a b c d e f = absurd (a refl)
@@ -35,10 +34,6 @@ one-if-not (suc n) h = refl
 pub takes : {k j m : ℕ} → k ≡ j → taken k ≤ m → taken j ≤ m
 takes e h = rw (← e) h
 
--- what a kind's own call answers and leaves, said of the kind
-pub plays : {k j : ℕ} (b : PathBuilder) (vs : List ℕ) (fs ns : List Float) {o : Outcome} {c : Call} → k ≡ j → c ≡ callOf j ns → o ≡ called b vs fs c → o ≡ called b vs fs (callOf k ns)
-plays b vs fs ns e h g = g ∙ ap (λ (c : Call). called b vs fs c) h ∙ ap (λ (k : ℕ). called b vs fs (callOf k ns)) (sym e)
-
 pub cubic-as : {a b c x y z : Vec2} → a ≡ x → b ≡ y → c ≡ z → CubicTo a b c ≡ CubicTo x y z
 cubic-as e f g = rw (e, f, g)
 
@@ -48,18 +43,27 @@ conic-as e f g = rw (e, f, g)
 pub note-as : {a b : Vec2} {w : Float} (fs : List Float) → a ≡ point fs 0 → b ≡ point fs 2 → w ≡ number fs 4 → AsRoundedRect (record { min = a; max = b }) w ≡ note fs
 note-as fs e f g = rw (e, f, g)
 
-pub last-kind : (k : ℕ) → k ≤ 8 → Single k → (k ≡ 0 → ⊥) → (k ≡ 6 → ⊥) → (k ≡ 7 → ⊥) → k ≡ 8
-last-kind k l (inl e) a f g = absurd (a e)
-last-kind k l (inr h) a f g = omega (arith, l, not-below (not-below h f) g)
+-- ---- the kinds that take no buffer
+
+pub last-kind : {k : ℕ} → 5 < k → k ≤ 8 → (k ≡ 6 → ⊥) → (k ≡ 7 → ⊥) → k ≡ 8
+last-kind {k} h l f g = omega (arith, l, not-below (not-below h f) g)
   where
     not-below : {n : ℕ} → n ≤ k → (k ≡ n → ⊥) → suc n ≤ k
     not-below h g = omega (arith, h, g)
 
-pub single : (k : ℕ) → (k ≡ 1 → ⊥) → (k ≡ 2 → ⊥) → (k ≡ 3 → ⊥) → (k ≡ 4 → ⊥) → (k ≡ 5 → ⊥) → Single k
-single zero a b c d e = inl refl
-single (suc zero) a b c d e = absurd (a refl)
-single (suc (suc zero)) a b c d e = absurd (b refl)
-single (suc (suc (suc zero))) a b c d e = absurd (c refl)
-single (suc (suc (suc (suc zero)))) a b c d e = absurd (d refl)
-single (suc (suc (suc (suc (suc zero))))) a b c d e = absurd (e refl)
-single (suc (suc (suc (suc (suc (suc k)))))) a b c d e = inr (omega arith)
+pub takes-no-buffer : (k : ℕ) → 5 < k → k ≤ 8 → (ns : List Float) → buffered (callOf k ns) ≡ false
+takes-no-buffer zero h l ns = absurd (omega (arith, h))
+takes-no-buffer (suc zero) h l ns = absurd (omega (arith, h))
+takes-no-buffer (suc (suc zero)) h l ns = absurd (omega (arith, h))
+takes-no-buffer (suc (suc (suc zero))) h l ns = absurd (omega (arith, h))
+takes-no-buffer (suc (suc (suc (suc zero)))) h l ns = absurd (omega (arith, h))
+takes-no-buffer (suc (suc (suc (suc (suc zero))))) h l ns = absurd (omega (arith, h))
+takes-no-buffer (suc (suc (suc (suc (suc (suc zero)))))) h l ns = refl
+takes-no-buffer (suc (suc (suc (suc (suc (suc (suc zero))))))) h l ns = refl
+takes-no-buffer (suc (suc (suc (suc (suc (suc (suc (suc zero)))))))) h l ns = refl
+takes-no-buffer (suc (suc (suc (suc (suc (suc (suc (suc (suc k))))))))) h l ns = absurd (omega (arith, l))
+
+-- what such a call answers and leaves
+pub told-called : (b : PathBuilder) (vs : List ℕ) (fs : List Float) (c : Call) → buffered c ≡ false → outcome (answered (told b c)) vs fs ≡ called b vs fs c
+unfolding called
+told-called b vs fs c e = rw e

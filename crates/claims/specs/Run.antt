@@ -28,10 +28,6 @@ played b cs n k = told (run b cs) (n + length cs) (k + refusedOf (refusals b cs)
 abbrev pub rest : List ℕ → List Float → Run → List ℕ → List Float → Outcome
 rest ks ns r vs fs = played (standing (r .state) vs fs) (left ks ns (r .calls) (r .at)) (r .calls) (r .refused)
 
--- a kind that has no loop of its own
-abbrev pub Single : ℕ → Type 0
-Single k = (k ≡ 0) ⊎ (5 < k)
-
 -- the counts are in range, and one more call can be counted
 pub record Counted (ns : List Float) (r : Run) : Type 0 where
   pub calls : r .calls < 9223372036854775807
@@ -65,6 +61,6 @@ pub record Ran (ks : List ℕ) (ns : List Float) (r : Run) (vs : List ℕ) (fs :
   pub along : Along ks ns r vs fs q vs' fs'
   pub ended : q .calls ≡ r .calls → left ks ns (q .calls) (q .at) ≡ []
 
--- the same of one call of kind k, in every list where it is next
-abbrev pub RanOne : ℕ → List Float → Run → List ℕ → List Float → Run → List ℕ → List Float → Type 0
-RanOne k ns r vs fs q vs' fs' = (ks : List ℕ) → Next k ks ns r → Ran ks ns r vs fs q vs' fs'
+-- the same of one call of kind k that takes no buffer, in every list where it is next and over any buffers
+abbrev pub RanTold : ℕ → List Float → Run → Run → Type 0
+RanTold k ns r q = (ks : List ℕ) (vs : List ℕ) (fs : List Float) → Next k ks ns r → Ran ks ns r vs fs q vs fs

@@ -1,16 +1,14 @@
 // A list of builder calls, encoded, and played on a fresh builder: the code that demand 3 speaks of. Calls of one kind that stand in a row are played by a
 // loop of their own, so that a turn need not ask for the kind among all.
 ghost use mathlib.Core.Path.{_≡_};
-ghost use Prim.Native.Nat.{_+_, _≤_};
+ghost use Prim.Native.Nat.{_+_, _≤_, _<_};
 ghost use lib.ListN.{length, drop};
-ghost use Rattle.builder.specs.Build as build;
-ghost use Rattle.builder.specs.Build.{called};
+ghost use Rattle.builder.specs.Build.{told};
 ghost use Rattle.claims.specs.Calls as calls;
 ghost use Rattle.claims.specs.Calls.{taken, point, callOf};
 ghost use Rattle.claims.specs.Replay.{oneIf, outcome, replayed};
-ghost use Rattle.claims.specs.Run.{Single, Counted, Next, Follows, Ran, RanOne};
+ghost use Rattle.claims.specs.Run.{Counted, Next, Follows, Ran, RanTold};
 use builder::PathBuilder;
-use builder::Reply;
 use path::FillRule;
 use path::Rect;
 use vec2::Vec2;
@@ -41,45 +39,26 @@ fn point_at(numbers: &[f32], at: usize, j: usize) -> Vec2
     }
 }
 
-// The answer of a call that takes no buffer.
-fn answer(state: PathBuilder) -> Reply
-    ensures { λ r. ⌜ r ≡ build.answered state ⌝ }
-{
-    Reply {
-        state,
-        quads: 0,
-        refused: 0,
-    }
-}
-
 // Records the note that these numbers tell.
-fn note(b: PathBuilder, numbers: &[f32]) -> Reply
+fn note(b: PathBuilder, numbers: &[f32]) -> PathBuilder
     requires { ⌜ 5 ≤ length (now numbers) ⌝ }
-    ensures { λ r. ⌜ r ≡ build.answered (build.told b (calls.note (now (numbers .entry)))) ⌝ }
+    ensures { λ r. ⌜ r ≡ told b (calls.note (now (numbers .entry))) ⌝ }
 {
     let rect = Rect {
         min: point_at(numbers, 0, 0),
         max: point_at(numbers, 0, 2),
     };
-    answer(b.as_rounded_rect(rect, numbers[4]))
+    b.as_rounded_rect(rect, numbers[4])
 }
 
-// Plays the call of this kind whose numbers are the first of these, a kind that has no loop of its own.
-fn play_kind(
-    b: PathBuilder,
-    kind: u8,
-    numbers: &[f32],
-    verbs: &mut [u8],
-    points: &mut [f32],
-) -> Reply
-    requires { ⌜ (kind ≤ 8) × Single kind × (taken kind ≤ length (now numbers)) ⌝ }
-    ensures { λ r. ⌜ build.outcome r (now (verbs .exit)) (now (points .exit))
-        ≡ called b (now (verbs .entry)) (now (points .entry)) (callOf kind (now (numbers .entry))) ⌝ }
+// Tells the builder a fill rule or the note, by the kind: calls that take no buffer and refuse nothing.
+fn tell(b: PathBuilder, kind: u8, numbers: &[f32]) -> PathBuilder
+    requires { ⌜ (5 < kind) × (kind ≤ 8) × (taken kind ≤ length (now numbers)) ⌝ }
+    ensures { λ r. ⌜ r ≡ told b (callOf kind (now (numbers .entry))) ⌝ }
 {
     match kind {
-        0 => b.move_to(verbs, points, point_at(numbers, 0, 0)),
-        6 => answer(b.with_fill_rule(FillRule::NonZero)),
-        7 => answer(b.with_fill_rule(FillRule::EvenOdd)),
+        6 => b.with_fill_rule(FillRule::NonZero),
+        7 => b.with_fill_rule(FillRule::EvenOdd),
         _ => note(b, numbers),
     }
 }
@@ -118,6 +97,30 @@ fn is_next(kind: u8, n: usize, kinds: &[u8], i: usize, numbers: &[f32], at: usiz
         }
     }
     false
+}
+
+fn play_moves(r: Run, kinds: &[u8], numbers: &[f32], verbs: &mut [u8], points: &mut [f32]) -> Run
+    requires { ⌜ Next 0 (now kinds) (now numbers) r ⌝ }
+    ensures { λ q. ⌜ Ran (now (kinds .entry)) (now (numbers .entry)) r (now (verbs .entry)) (now (points .entry)) q (now (verbs .exit)) (now (points .exit)) ⌝ }
+{
+    let mut state = r.state;
+    let mut i = r.calls;
+    let mut at = r.at;
+    let mut refused = r.refused;
+    while is_next(0, 2, kinds, i, numbers, at) {
+        let p = point_at(numbers, at, 0);
+        let reply = state.move_to(verbs, points, p);
+        state = reply.state;
+        refused += one_if(reply.refused);
+        i += 1;
+        at += 2;
+    }
+    Run {
+        state,
+        calls: i,
+        at,
+        refused,
+    }
 }
 
 fn play_lines(r: Run, kinds: &[u8], numbers: &[f32], verbs: &mut [u8], points: &mut [f32]) -> Run
@@ -245,10 +248,10 @@ fn play_conics(r: Run, kinds: &[u8], numbers: &[f32], verbs: &mut [u8], points: 
 
 // ---- the whole list
 
-// Plays one call of a kind that has no loop of its own. Where none stands there, the answer is what was given.
-fn play_one(r: Run, kind: u8, numbers: &[f32], verbs: &mut [u8], points: &mut [f32]) -> Run
-    requires { ⌜ Single kind × Counted (now numbers) r ⌝ }
-    ensures { λ q. ⌜ RanOne kind (now (numbers .entry)) r (now (verbs .entry)) (now (points .entry)) q (now (verbs .exit)) (now (points .exit)) ⌝ }
+// Plays one call that takes no buffer. Where none stands there, the answer is what was given.
+fn play_told(r: Run, kind: u8, numbers: &[f32]) -> Run
+    requires { ⌜ (5 < kind) × Counted (now numbers) r ⌝ }
+    ensures { λ q. ⌜ RanTold kind (now (numbers .entry)) r q ⌝ }
 {
     let n = numbers_taken(kind);
     let at = r.at;
@@ -259,13 +262,12 @@ fn play_one(r: Run, kind: u8, numbers: &[f32], verbs: &mut [u8], points: &mut [f
         return r;
     }
     let state = r.state;
-    let reply = play_kind(state, kind, &numbers[at..], verbs, points);
-    let next = reply.state;
+    let next = tell(state, kind, &numbers[at..]);
     Run {
         state: next,
         calls: r.calls + 1,
         at: at + n,
-        refused: r.refused + one_if(reply.refused),
+        refused: r.refused,
     }
 }
 
@@ -282,12 +284,13 @@ fn play_run(
     ensures { λ q. ⌜ Ran (now (kinds .entry)) (now (numbers .entry)) r (now (verbs .entry)) (now (points .entry)) q (now (verbs .exit)) (now (points .exit)) ⌝ }
 {
     match kind {
+        0 => play_moves(r, kinds, numbers, verbs, points),
         1 => play_lines(r, kinds, numbers, verbs, points),
         2 => play_quads(r, kinds, numbers, verbs, points),
         3 => play_cubics(r, kinds, numbers, verbs, points),
         4 => play_closes(r, kinds, numbers, verbs, points),
         5 => play_conics(r, kinds, numbers, verbs, points),
-        _ => play_one(r, kind, numbers, verbs, points),
+        _ => play_told(r, kind, numbers),
     }
 }
 

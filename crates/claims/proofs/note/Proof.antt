@@ -17,11 +17,8 @@ shared-slice-read-as-rounded-rect c = search needs
 as-rounded-rect-requires : tie.Need-as-rounded-rect-requires
 as-rounded-rect-requires c κs = search needs
 
-answer-requires : tie.Need-answer-requires
-answer-requires c κs = search needs
-
 returns : tie.Need-returns
-returns c = rw (c .answer .ensures, c .before .as-rounded-rect .ensures, note-as (c .before .before .before .before .before .before .args .numbers .now) (c .before .before .before .before .point-at .ensures) (c .before .before .before .point-at2 .ensures) refl)
+returns c = rw (c .as-rounded-rect .ensures, note-as (c .before .before .before .before .before .args .numbers .now) (c .before .before .before .point-at .ensures) (c .before .before .point-at2 .ensures) refl)
 
 pub note-spec : {M : Type 1} → statement M
 note-spec =
@@ -31,5 +28,4 @@ note-spec =
     point-at-requires-2
     shared-slice-read-as-rounded-rect
     as-rounded-rect-requires
-    answer-requires
     returns)

@@ -1,9 +1,10 @@
--- `claims::play_run` meets its contract: an arm for each kind, and one for those that are played singly. Assumes nothing.
-use native.Mathlib.Omega.{arith}
-use Rattle.claims.proofs.Tables.{single}
+-- `claims::play_run` meets its contract: an arm for each kind that has a loop, and one for those that take no buffer. Assumes nothing.
 use borrow.Author.Needs.{needs}
 use Rattle.claims.proofs.play_run.Statement.{statement}
 use Rattle.claims.proofs.play_run.Tie as tie
+
+play-moves-requires : tie.Need-play-moves-requires
+play-moves-requires c κs = search needs
 
 play-lines-requires : tie.Need-play-lines-requires
 play-lines-requires c κs = search needs
@@ -20,11 +21,8 @@ play-closes-requires c κs = search needs
 play-conics-requires : tie.Need-play-conics-requires
 play-conics-requires c κs = search needs
 
-play-one-requires : tie.Need-play-one-requires
-play-one-requires c κs =
-    let r = c .before .before .match .rest in
-    let p = c .before .before .before .before .before .before .before .pre in
-    (single _ (r .0 .0 .0 .0 .1) (r .0 .0 .0 .1) (r .0 .0 .1) (r .0 .1) (r .1), record { calls = omega (arith, p .calls, c .before .before .before .before .before .before .before .good); at = p .at; refused = p .refused })
+play-told-requires : tie.Need-play-told-requires
+play-told-requires c κs = search needs
 
 same-length : tie.Need-same-length
 same-length c = search needs
@@ -78,18 +76,22 @@ same-length-12 : tie.Need-same-length-12
 same-length-12 c = search needs
 
 returns-6 : tie.Need-returns-6
-returns-6 c = c .before .before .before .before .play-one .ensures _ (c .before .before .before .before .before .before .before .before .before .before .before .before .pre)
+returns-6 c = search needs
+
+returns-7 : tie.Need-returns-7
+returns-7 c = c .play-told .ensures _ _ _ (c .before .before .before .before .before .before .pre)
 
 pub play-run-spec : {M : Type 1} → statement M
 play-run-spec =
     tie.close
     (tie.spec
+    play-moves-requires
     play-lines-requires
     play-quads-requires
     play-cubics-requires
     play-closes-requires
     play-conics-requires
-    play-one-requires
+    play-told-requires
     same-length
     same-length-2
     returns
@@ -107,4 +109,5 @@ play-run-spec =
     returns-5
     same-length-11
     same-length-12
-    returns-6)
+    returns-6
+    returns-7)
