@@ -15,7 +15,8 @@ use path::FillRule;
 use path::Rect;
 use vec2::Vec2;
 
-// Counts first, floats next, small fields last: no padding inside. The note's box, which the drawing calls leave alone, is 16 bytes together.
+// Counts first, floats next, small fields last: no padding inside. The note's box, which the drawing calls leave alone, is 16 bytes together, and what
+// they change is not beside the last byte, which is free: a loop of calls keeps each field apart then.
 pub struct PathBuilder {
     pub verbs: usize,
     pub points: usize,
@@ -23,14 +24,14 @@ pub struct PathBuilder {
     pub min_y: f32,
     pub max_x: f32,
     pub max_y: f32,
-    pub start_x: f32,
-    pub start_y: f32,
+    pub radius: f32,
     pub pen_x: f32,
     pub pen_y: f32,
-    pub radius: f32,
-    pub fill_rule: FillRule,
+    pub start_x: f32,
+    pub start_y: f32,
     pub noted: bool,
     pub started: bool,
+    pub fill_rule: FillRule,
 }
 
 // The answer of every call that takes the buffers: the state, how many quads a conic gave, and the number that refused it, or 0.

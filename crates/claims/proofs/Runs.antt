@@ -5,7 +5,7 @@
 --     run-over                        the end of a run; went-on and too-few, those of a single call; told-one, that of one without a buffer
 --     over                            the whole list was played
 -- Assumes nothing.
-use mathlib.Core.Path.{_≡_, refl, sym, ap, subst, _∙_}
+use mathlib.Core.Path.{_≡_, refl, sym, ap, ap₂, subst, _∙_}
 use mathlib.Core.Logic.{_⊎_, inl, inr}
 use mathlib.Core.Bool.{Bool, false, true≢false}
 use mathlib.Core.List.{List, []}
@@ -23,15 +23,15 @@ use Rattle.builder.specs.Build as build
 use Rattle.builder.specs.Build.{fresh, answered, told, called}
 use Rattle.claims.specs.Calls.{taken, callOf}
 use Rattle.claims.specs.Replay as replay
-use Rattle.claims.specs.Replay.{oneIf, replayed}
+use Rattle.claims.specs.Replay.{replayed}
 use Rattle.claims.specs.declared.Run.{Run}
-use Rattle.claims.specs.Run.{standing, left, played, Next, Follows, Along, Ran}
+use Rattle.claims.specs.Run.{standing, left, played, behind, Next, Follows, Along, Ran}
 use Rattle.claims.proofs.Places.{no-kind, bad-kind, few-numbers, one-more}
-use Rattle.claims.proofs.Tables.{takes-no-buffer, told-called}
+use Rattle.claims.proofs.Tables.{one-at-most, takes-no-buffer, told-called}
 use Rattle.claims.proofs.Turns.{played-whole, played-none, turn, call-kept}
 
 abbrev pub stood : PathBuilder → ℕ → ℕ → ℕ → Run
-stood b i at refused = record { state = b; calls = i; at = at; refused = refused }
+stood b i at refused = record { calls = i; at = at; refused = refused; state = b }
 
 pub stays : {ks : List ℕ} {ns : List Float} (r : Run) {vs : List ℕ} {fs : List Float} → r .calls ≤ length ks → r .at ≤ length ns → r .refused ≤ r .calls → Along ks ns r vs fs r vs fs
 stays r i at h = record { calls = i; on = omega arith; at = at; refused = h; bytes = refl; floats = refl; made = refl }
@@ -67,23 +67,20 @@ module _ {k i : ℕ} {ks : List ℕ} (ns : List Float) (n at : ℕ) where
   told-none (inr h) = record { on = λ t. absurd (true≢false (sym t)); otherwise = λ t. inr (inl h) }
 
 module _ {ks : List ℕ} {ns : List Float} {r q : Run} {vs vs' : List ℕ} {fs fs' : List Float} (s : Along ks ns r vs fs q vs' fs') where
-  pub turned : (k : ℕ) → k ≤ 8 → q .calls < length ks → getD ks (q .calls) 0 ≡ k → taken k ≤ length ns - q .at →
-      (c : Call) (o : Reply) (vs'' : List ℕ) (fs'' : List Float) (at m : ℕ) →
-      build.outcome o vs'' fs'' ≡ called (q .state) vs' fs' c → c ≡ callOf k (drop (q .at) ns) → at ≡ q .at + taken k → (m ≡ oneIf (o .refused)) × (m ≤ 1) →
-      Along ks ns r vs fs (stood (o .state) (q .calls + 1) at (q .refused + m)) vs'' fs''
-  turned k good h kind room c o vs'' fs'' at m e d a t =
+  pub turned : (k : ℕ) → k ≤ 8 → (q .calls < length ks) × (getD ks (q .calls) 0 ≡ k) × (taken k ≤ length ns - q .at) →
+      (c : Call) (o : Reply) (p : Run) (vs'' : List ℕ) (fs'' : List Float) →
+      build.outcome o vs'' fs'' ≡ called (q .state) vs' fs' c → c ≡ callOf k (drop (q .at) ns) → p ≡ behind q o (taken k) → Along ks ns r vs fs p vs'' fs''
+  turned k good (h, kind, room) c o p vs'' fs'' e d a =
       let l = one-more ks ns (q .calls) (q .at) h (omega (arith, good, kind)) (taken k) (ap taken (sym kind)) room in
       let kept = call-kept (q .state) vs' fs' c o vs'' fs'' e in
-      record {
+      subst (λ (x : Run). Along ks ns r vs fs x vs'' fs'') (sym a) record {
         calls = omega (arith, h);
         on = omega (arith, s .on);
-        at = omega (arith, s .at, a, room);
-        refused = omega (arith, s .refused, t .1);
+        at = omega (arith, s .at, room);
+        refused = omega (arith, s .refused, one-at-most (o .refused));
         bytes = kept .bytes ∙ s .bytes;
         floats = kept .floats ∙ s .floats;
-        made =
-            ap (λ (x : ℕ). played (standing (o .state) vs'' fs'') (left ks ns (q .calls + 1) x) (q .calls + 1) (q .refused + m)) a
-            ∙ turn (q .state) vs' vs'' fs' fs'' c _ _ _ o (q .calls) (q .refused) m _ e (d ∙ ap (λ (j : ℕ). callOf j (drop (q .at) ns)) (sym kind)) (t .0) l (s .made);
+        made = turn (q .state) vs' vs'' fs' fs'' c _ _ _ o (q .calls) (q .refused) _ e (d ∙ ap (λ (j : ℕ). callOf j (drop (q .at) ns)) (sym kind)) l (s .made);
       }
 
   -- some were played
@@ -110,9 +107,8 @@ pub told-one : {k : ℕ} {ks : List ℕ} {ns : List Float} {r : Run} → Next k 
 told-one {k} {ks} {ns} {r} n h good room vs fs s at e a =
     let c = callOf k (drop (r .at) ns) in
     let o : build.outcome (answered s) vs fs ≡ called (r .state) vs fs c = ap (λ (x : PathBuilder). build.outcome (answered x) vs fs) e ∙ told-called (r .state) vs fs c (takes-no-buffer k h good (drop (r .at) ns)) in
-    let none : (_≡_ {A = ℕ} 0 0) × (0 ≤ 1) = (refl, omega arith) in
-    let q = went-on (turned (begins n vs fs) k good (n .calls) (n .kind) room c (answered s) vs fs at 0 o refl a none) (omega arith) in
-    subst (λ (x : ℕ). Ran ks ns r vs fs (stood s (r .calls + 1) at x) vs fs) (add-zero (r .refused)) q
+    went-on (turned (begins n vs fs) k good (n .calls, n .kind, room) c (answered s) (stood s (r .calls + 1) at (r .refused)) vs fs o refl
+    (ap₂ (λ (x y : ℕ). stood s (r .calls + 1) x y) a (sym (add-zero (r .refused))))) (omega arith)
 
 -- ---- the whole list
 

@@ -29,6 +29,10 @@ pub one-if-not : (n : ℕ) → (n ≡ 0 → ⊥) → 1 ≡ oneIf n
 one-if-not zero h = absurd (h refl)
 one-if-not (suc n) h = refl
 
+pub one-at-most : (n : ℕ) → oneIf n ≤ 1
+one-at-most zero = omega arith
+one-at-most (suc n) = omega arith
+
 -- ---- the call of each kind
 
 pub takes : {k j m : ℕ} → k ≡ j → taken k ≤ m → taken j ≤ m

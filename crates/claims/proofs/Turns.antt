@@ -43,20 +43,18 @@ played-more b c cs n k =
     assoc x y z = omega arith
 
 -- the same, as the builder's own promise tells it
-pub played-one : (b : PathBuilder) (vs : List ℕ) (fs : List Float) (c : Call) (cs : List Call) (n k : ℕ) (r : Reply) (vs' : List ℕ) (fs' : List Float) (m : ℕ) →
-    build.outcome r vs' fs' ≡ called b vs fs c → m ≡ oneIf (r .refused) →
-    played (standing (r .state) vs' fs') cs (n + 1) (k + m) ≡ played (standing b vs fs) (c ∷ cs) n k
-played-one b vs fs c cs n k r vs' fs' m e q =
-    ap (λ (x : ℕ). played (standing (r .state) vs' fs') cs (n + 1) (k + x)) q
-    ∙ ap (λ (o : build.Outcome). played (build.left o) cs (n + 1) (k + oneIf (o .reply .refused))) e
+pub played-one : (b : PathBuilder) (vs : List ℕ) (fs : List Float) (c : Call) (cs : List Call) (n k : ℕ) (r : Reply) (vs' : List ℕ) (fs' : List Float) →
+    build.outcome r vs' fs' ≡ called b vs fs c → played (standing (r .state) vs' fs') cs (n + 1) (k + oneIf (r .refused)) ≡ played (standing b vs fs) (c ∷ cs) n k
+played-one b vs fs c cs n k r vs' fs' e =
+    ap (λ (o : build.Outcome). played (build.left o) cs (n + 1) (k + oneIf (o .reply .refused))) e
     ∙ played-more (standing b vs fs) c cs n k
 
 -- a turn of the loop: of the calls cs that are left, it plays the first
-pub turn : (b : PathBuilder) (vs vs' : List ℕ) (fs fs' : List Float) (c d : Call) (cs ds : List Call) (r : Reply) (n k m : ℕ) (all : Outcome) →
-    build.outcome r vs' fs' ≡ called b vs fs c → c ≡ d → m ≡ oneIf (r .refused) → cs ≡ d ∷ ds →
-    played (standing b vs fs) cs n k ≡ all → played (standing (r .state) vs' fs') ds (n + 1) (k + m) ≡ all
-turn b vs vs' fs fs' c d cs ds r n k m all e i q l h =
-    played-one b vs fs c ds n k r vs' fs' m e q
+pub turn : (b : PathBuilder) (vs vs' : List ℕ) (fs fs' : List Float) (c d : Call) (cs ds : List Call) (r : Reply) (n k : ℕ) (all : Outcome) →
+    build.outcome r vs' fs' ≡ called b vs fs c → c ≡ d → cs ≡ d ∷ ds →
+    played (standing b vs fs) cs n k ≡ all → played (standing (r .state) vs' fs') ds (n + 1) (k + oneIf (r .refused)) ≡ all
+turn b vs vs' fs fs' c d cs ds r n k all e i l h =
+    played-one b vs fs c ds n k r vs' fs' e
     ∙ ap (λ (x : Call). played (standing b vs fs) (x ∷ ds) n k) i
     ∙ ap (λ (x : List Call). played (standing b vs fs) x n k) (sym l)
     ∙ h

@@ -7,10 +7,11 @@ use Prim.Native.Nat.{ℕ, _+_, _-_, _≤_, _<_}
 use lib.ListN.{length, getD, drop}
 use lib.Ieee.{Float}
 use Rattle.builder.specs.declared.PathBuilder.{PathBuilder}
+use Rattle.builder.specs.declared.Reply.{Reply}
 use Rattle.builder.specs.declared.Call.{Call}
 use Rattle.builder.specs.Build.{Built, run, refusals}
 use Rattle.claims.specs.Calls.{calls}
-use Rattle.claims.specs.Replay.{Outcome, refusedOf, told}
+use Rattle.claims.specs.Replay.{Outcome, oneIf, refusedOf, told}
 use Rattle.claims.specs.declared.Run.{Run}
 
 abbrev pub standing : PathBuilder → List ℕ → List Float → Built
@@ -27,6 +28,10 @@ played b cs n k = told (run b cs) (n + length cs) (k + refusedOf (refusals b cs)
 -- what the calls that are left behind r make of its state and of the buffers
 abbrev pub rest : List ℕ → List Float → Run → List ℕ → List Float → Outcome
 rest ks ns r vs fs = played (standing (r .state) vs fs) (left ks ns (r .calls) (r .at)) (r .calls) (r .refused)
+
+-- where the playing stands behind a call that took n numbers and got the reply o
+abbrev pub behind : Run → Reply → ℕ → Run
+behind r o n = record { calls = r .calls + 1; at = r .at + n; refused = r .refused + oneIf (o .refused); state = o .state }
 
 -- the counts are in range, and one more call can be counted
 pub record Counted (ns : List Float) (r : Run) : Type 0 where

@@ -7,8 +7,9 @@ ghost use Rattle.builder.specs.Build.{told};
 ghost use Rattle.claims.specs.Calls as calls;
 ghost use Rattle.claims.specs.Calls.{taken, point, callOf};
 ghost use Rattle.claims.specs.Replay.{oneIf, outcome, replayed};
-ghost use Rattle.claims.specs.Run.{Counted, Next, Follows, Ran, RanTold};
+ghost use Rattle.claims.specs.Run.{Counted, Next, Follows, Ran, RanTold, behind};
 use builder::PathBuilder;
+use builder::Reply;
 use path::FillRule;
 use path::Rect;
 use vec2::Vec2;
@@ -71,17 +72,17 @@ pub struct Replayed {
 }
 
 fn one_if(refused: u8) -> usize
-    ensures { λ r. ⌜ (r ≡ oneIf refused) × (r ≤ 1) ⌝ }
+    ensures { λ r. ⌜ r ≡ oneIf refused ⌝ }
 {
     if refused == 0 { 0 } else { 1 }
 }
 
-// Where the playing stands: the state, how many calls were played, the numbers that they took, and how many were refused.
+// Where the playing stands: how many calls were played, the numbers that they took, how many were refused, and the state.
 struct Run {
-    state: PathBuilder,
     calls: usize,
     at: usize,
     refused: usize,
+    state: PathBuilder,
 }
 
 // ---- the calls that stand next, as long as they are of one kind
@@ -99,151 +100,106 @@ fn is_next(kind: u8, n: usize, kinds: &[u8], i: usize, numbers: &[f32], at: usiz
     false
 }
 
+// Goes on behind a call that took n numbers and got this reply.
+fn go_on(r: Run, reply: Reply, n: usize) -> Run
+    requires { ⌜ (r .calls < 9223372036854775807) × (r .refused ≤ r .calls) × (r .at + n ≤ 9223372036854775807) ⌝ }
+    ensures { λ q. ⌜ q ≡ behind r reply n ⌝ }
+{
+    let state = reply.state;
+    Run {
+        calls: r.calls + 1,
+        at: r.at + n,
+        refused: r.refused + one_if(reply.refused),
+        state,
+    }
+}
+
 fn play_moves(r: Run, kinds: &[u8], numbers: &[f32], verbs: &mut [u8], points: &mut [f32]) -> Run
     requires { ⌜ Next 0 (now kinds) (now numbers) r ⌝ }
     ensures { λ q. ⌜ Ran (now (kinds .entry)) (now (numbers .entry)) r (now (verbs .entry)) (now (points .entry)) q (now (verbs .exit)) (now (points .exit)) ⌝ }
 {
-    let mut state = r.state;
-    let mut i = r.calls;
-    let mut at = r.at;
-    let mut refused = r.refused;
-    while is_next(0, 2, kinds, i, numbers, at) {
-        let p = point_at(numbers, at, 0);
+    let mut q = r;
+    while is_next(0, 2, kinds, q.calls, numbers, q.at) {
+        let p = point_at(numbers, q.at, 0);
+        let state = q.state;
         let reply = state.move_to(verbs, points, p);
-        state = reply.state;
-        refused += one_if(reply.refused);
-        i += 1;
-        at += 2;
+        q = go_on(q, reply, 2);
     }
-    Run {
-        state,
-        calls: i,
-        at,
-        refused,
-    }
+    q
 }
 
 fn play_lines(r: Run, kinds: &[u8], numbers: &[f32], verbs: &mut [u8], points: &mut [f32]) -> Run
     requires { ⌜ Next 1 (now kinds) (now numbers) r ⌝ }
     ensures { λ q. ⌜ Ran (now (kinds .entry)) (now (numbers .entry)) r (now (verbs .entry)) (now (points .entry)) q (now (verbs .exit)) (now (points .exit)) ⌝ }
 {
-    let mut state = r.state;
-    let mut i = r.calls;
-    let mut at = r.at;
-    let mut refused = r.refused;
-    while is_next(1, 2, kinds, i, numbers, at) {
-        let p = point_at(numbers, at, 0);
+    let mut q = r;
+    while is_next(1, 2, kinds, q.calls, numbers, q.at) {
+        let p = point_at(numbers, q.at, 0);
+        let state = q.state;
         let reply = state.line_to(verbs, points, p);
-        state = reply.state;
-        refused += one_if(reply.refused);
-        i += 1;
-        at += 2;
+        q = go_on(q, reply, 2);
     }
-    Run {
-        state,
-        calls: i,
-        at,
-        refused,
-    }
+    q
 }
 
 fn play_quads(r: Run, kinds: &[u8], numbers: &[f32], verbs: &mut [u8], points: &mut [f32]) -> Run
     requires { ⌜ Next 2 (now kinds) (now numbers) r ⌝ }
     ensures { λ q. ⌜ Ran (now (kinds .entry)) (now (numbers .entry)) r (now (verbs .entry)) (now (points .entry)) q (now (verbs .exit)) (now (points .exit)) ⌝ }
 {
-    let mut state = r.state;
-    let mut i = r.calls;
-    let mut at = r.at;
-    let mut refused = r.refused;
-    while is_next(2, 4, kinds, i, numbers, at) {
-        let c = point_at(numbers, at, 0);
-        let p = point_at(numbers, at, 2);
+    let mut q = r;
+    while is_next(2, 4, kinds, q.calls, numbers, q.at) {
+        let c = point_at(numbers, q.at, 0);
+        let p = point_at(numbers, q.at, 2);
+        let state = q.state;
         let reply = state.quad_to(verbs, points, c, p);
-        state = reply.state;
-        refused += one_if(reply.refused);
-        i += 1;
-        at += 4;
+        q = go_on(q, reply, 4);
     }
-    Run {
-        state,
-        calls: i,
-        at,
-        refused,
-    }
+    q
 }
 
 fn play_cubics(r: Run, kinds: &[u8], numbers: &[f32], verbs: &mut [u8], points: &mut [f32]) -> Run
     requires { ⌜ Next 3 (now kinds) (now numbers) r ⌝ }
     ensures { λ q. ⌜ Ran (now (kinds .entry)) (now (numbers .entry)) r (now (verbs .entry)) (now (points .entry)) q (now (verbs .exit)) (now (points .exit)) ⌝ }
 {
-    let mut state = r.state;
-    let mut i = r.calls;
-    let mut at = r.at;
-    let mut refused = r.refused;
-    while is_next(3, 6, kinds, i, numbers, at) {
-        let c = point_at(numbers, at, 0);
-        let d = point_at(numbers, at, 2);
-        let p = point_at(numbers, at, 4);
+    let mut q = r;
+    while is_next(3, 6, kinds, q.calls, numbers, q.at) {
+        let c = point_at(numbers, q.at, 0);
+        let d = point_at(numbers, q.at, 2);
+        let p = point_at(numbers, q.at, 4);
+        let state = q.state;
         let reply = state.cubic_to(verbs, points, c, d, p);
-        state = reply.state;
-        refused += one_if(reply.refused);
-        i += 1;
-        at += 6;
+        q = go_on(q, reply, 6);
     }
-    Run {
-        state,
-        calls: i,
-        at,
-        refused,
-    }
+    q
 }
 
 fn play_closes(r: Run, kinds: &[u8], numbers: &[f32], verbs: &mut [u8], points: &mut [f32]) -> Run
     requires { ⌜ Next 4 (now kinds) (now numbers) r ⌝ }
     ensures { λ q. ⌜ Ran (now (kinds .entry)) (now (numbers .entry)) r (now (verbs .entry)) (now (points .entry)) q (now (verbs .exit)) (now (points .exit)) ⌝ }
 {
-    let mut state = r.state;
-    let mut i = r.calls;
-    let at = r.at;
-    let mut refused = r.refused;
-    while is_next(4, 0, kinds, i, numbers, at) {
+    let mut q = r;
+    while is_next(4, 0, kinds, q.calls, numbers, q.at) {
+        let state = q.state;
         let reply = state.close(verbs, points);
-        state = reply.state;
-        refused += one_if(reply.refused);
-        i += 1;
+        q = go_on(q, reply, 0);
     }
-    Run {
-        state,
-        calls: i,
-        at,
-        refused,
-    }
+    q
 }
 
 fn play_conics(r: Run, kinds: &[u8], numbers: &[f32], verbs: &mut [u8], points: &mut [f32]) -> Run
     requires { ⌜ Next 5 (now kinds) (now numbers) r ⌝ }
     ensures { λ q. ⌜ Ran (now (kinds .entry)) (now (numbers .entry)) r (now (verbs .entry)) (now (points .entry)) q (now (verbs .exit)) (now (points .exit)) ⌝ }
 {
-    let mut state = r.state;
-    let mut i = r.calls;
-    let mut at = r.at;
-    let mut refused = r.refused;
-    while is_next(5, 5, kinds, i, numbers, at) {
-        let c = point_at(numbers, at, 0);
-        let p = point_at(numbers, at, 2);
-        let w = numbers[at + 4];
+    let mut q = r;
+    while is_next(5, 5, kinds, q.calls, numbers, q.at) {
+        let c = point_at(numbers, q.at, 0);
+        let p = point_at(numbers, q.at, 2);
+        let w = numbers[q.at + 4];
+        let state = q.state;
         let reply = state.conic_to(verbs, points, c, p, w);
-        state = reply.state;
-        refused += one_if(reply.refused);
-        i += 1;
-        at += 5;
+        q = go_on(q, reply, 5);
     }
-    Run {
-        state,
-        calls: i,
-        at,
-        refused,
-    }
+    q
 }
 
 // ---- the whole list
@@ -264,10 +220,10 @@ fn play_told(r: Run, kind: u8, numbers: &[f32]) -> Run
     let state = r.state;
     let next = tell(state, kind, &numbers[at..]);
     Run {
-        state: next,
         calls: r.calls + 1,
         at: at + n,
         refused: r.refused,
+        state: next,
     }
 }
 
@@ -300,19 +256,17 @@ pub fn replay(kinds: &[u8], numbers: &[f32], verbs: &mut [u8], points: &mut [f32
         ≡ replayed (now (kinds .entry)) (now (numbers .entry)) (now (verbs .entry)) (now (points .entry)) ⌝ }
 {
     let mut r = Run {
-        state: PathBuilder::new(),
         calls: 0,
         at: 0,
         refused: 0,
+        state: PathBuilder::new(),
     };
-    let mut i: usize = 0;
-    while i < kinds.len() {
-        let kind = kinds[i];
-        r = play_run(r, kind, kinds, numbers, verbs, points);
+    while r.calls < kinds.len() {
+        let i = r.calls;
+        r = play_run(r, kinds[i], kinds, numbers, verbs, points);
         if r.calls == i {
             break;
         }
-        i = r.calls;
     }
     let state = r.state;
     Replayed {

@@ -1,5 +1,4 @@
 -- `claims::one_if` meets its contract. Assumes nothing.
-use native.Mathlib.Omega.{arith}
 use borrow.Author.Needs.{needs}
 use Rattle.claims.proofs.Tables.{one-if-not}
 use Rattle.claims.proofs.one_if.Statement.{statement}
@@ -9,7 +8,7 @@ returns : tie.Need-returns
 returns c = search needs
 
 returns-2 : tie.Need-returns-2
-returns-2 c = (one-if-not (c .before .args .refused) (c .if1 .left), omega arith)
+returns-2 c = one-if-not (c .before .args .refused) (c .if1 .left)
 
 pub one-if-spec : {M : Type 1} → statement M
 one-if-spec = tie.close (tie.spec returns returns-2)

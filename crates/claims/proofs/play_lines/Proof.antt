@@ -1,24 +1,24 @@
 -- `claims::play_lines` meets its contract. Assumes nothing.
-use mathlib.Core.Path.{refl, ap}
+use mathlib.Core.Path.{ap}
 use Prim.Native.Nat.{_-_}
 use native.Mathlib.Omega.{arith}
 use lib.ListN.{length}
 use Rattle.builder.specs.declared.Call.the-variants.{LineTo}
+use Rattle.claims.specs.declared.Run.{Run}
 use Rattle.claims.specs.Run.{Along}
-use Rattle.claims.proofs.Runs.{stood, begins, turned, run-over}
+use Rattle.claims.proofs.Runs.{begins, turned, run-over}
 use borrow.Author.Needs.{needs}
 use Rattle.claims.proofs.play_lines.Statement.{statement}
 use Rattle.claims.proofs.play_lines.Tie as tie
 
 abbrev Inv-loop : tie.InvT-loop
-Inv-loop kinds numbers verbs₀ points₀ state₀ i₀ at₀ refused₀ verbs points state i at refused =
-    Along kinds numbers (stood state₀ i₀ at₀ refused₀) verbs₀ points₀ (stood state i at refused) verbs points
+Inv-loop kinds numbers verbs₀ points₀ q₀ verbs points q = Along kinds numbers q₀ verbs₀ points₀ q verbs points
 
 abbrev μ-loop : tie.MeasureT-loop
-μ-loop kinds numbers verbs₀ points₀ state₀ i₀ at₀ refused₀ verbs points state i at refused = length kinds - i
+μ-loop kinds numbers verbs₀ points₀ q₀ verbs points q = length kinds - q .calls
 
 loop-holds : tie.Need-loop-holds Inv-loop μ-loop
-loop-holds c = begins (c .before .before .before .before .before .pre) _ _
+loop-holds c = begins (c .before .before .before .before .pre) _ _
 
 is-next-requires : tie.Need-is-next-requires Inv-loop μ-loop
 is-next-requires c κs = c .loop .inv .at
@@ -29,25 +29,14 @@ point-at-requires c κs = omega (arith, c .before .before .loop .inv .at, c .bef
 line-to-requires : tie.Need-line-to-requires Inv-loop μ-loop
 line-to-requires c κs = search needs
 
-one-if-requires : tie.Need-one-if-requires Inv-loop μ-loop
-one-if-requires c κs = search needs
-
-add-refused : tie.Need-add-refused Inv-loop μ-loop
-add-refused c = omega (arith, c .before .before .before .before .before .before .before .before .before .before .before .before .loop .inv .refused, c .before .before .before .before .before .before .before .before .before .before .before .is-next .ensures .on (c .before .before .before .before .before .before .before .before .before .before .if1 .taken) .0, c .one-if .ensures .1, c .before .before .before .before .before .before .before .before .before .before .before .before .before .before .before .before .before .before .good)
-
-add-i : tie.Need-add-i Inv-loop μ-loop
-add-i c = omega (arith, c .before .before .before .before .before .before .before .before .before .before .before .is-next .ensures .on (c .before .before .before .before .before .before .before .before .before .before .if1 .taken) .0, c .before .before .before .before .before .before .before .before .before .before .before .before .before .before .before .before .before .before .good)
-
-add-at : tie.Need-add-at Inv-loop μ-loop
-add-at c = omega (arith, c .before .before .before .before .before .before .before .before .before .before .before .before .loop .inv .at, c .before .before .before .before .before .before .before .before .before .before .before .is-next .ensures .on (c .before .before .before .before .before .before .before .before .before .before .if1 .taken) .2, c .before .before .before .before .before .before .before .before .before .before .before .before .before .before .before .before .before .before .good)
+go-on-requires : tie.Need-go-on-requires Inv-loop μ-loop
+go-on-requires c κs = (omega (arith, c .before .before .before .before .before .before .before .before .before .before .is-next .ensures .on (c .before .before .before .before .before .before .before .before .before .if1 .taken) .0, c .before .before .before .before .before .before .before .before .before .before .before .before .before .before .before .before .good), c .before .before .before .before .before .before .before .before .before .before .before .loop .inv .refused, omega (arith, c .before .before .before .before .before .before .before .before .before .before .before .loop .inv .at, c .before .before .before .before .before .before .before .before .before .before .is-next .ensures .on (c .before .before .before .before .before .before .before .before .before .if1 .taken) .2, c .before .before .before .before .before .before .before .before .before .before .before .before .before .before .before .before .good))
 
 loop-less : tie.Need-loop-less Inv-loop μ-loop
-loop-less c = omega (arith, c .before .before .before .before .before .before .before .before .before .before .before .is-next .ensures .on (c .before .before .before .before .before .before .before .before .before .before .if1 .taken) .0)
+loop-less c = omega (arith, c .before .before .before .before .before .before .before .before .before .before .before .is-next .ensures .on (c .before .before .before .before .before .before .before .before .before .before .if1 .taken) .0, ap (λ (x : Run). x .calls) (c .go-on .ensures))
 
 loop-again : tie.Need-loop-again Inv-loop μ-loop
-loop-again c =
-    let f = c .before .before .before .before .before .before .before .before .before .before .before .is-next .ensures .on (c .before .before .before .before .before .before .before .before .before .before .if1 .taken) in
-    turned (c .before .before .before .before .before .before .before .before .before .before .before .before .loop .inv) 1 (omega arith) (f .0) (f .1) (f .2) _ _ _ _ _ _ (c .before .before .before .before .before .before .line-to .ensures) (ap LineTo (c .before .before .before .before .before .before .before .before .before .point-at .ensures)) refl (c .one-if .ensures)
+loop-again c = turned (c .before .before .before .before .before .before .before .before .before .before .before .before .loop .inv) 1 (omega arith) (c .before .before .before .before .before .before .before .before .before .before .before .is-next .ensures .on (c .before .before .before .before .before .before .before .before .before .before .if1 .taken)) _ _ _ _ _ (c .before .before .before .before .before .line-to .ensures) (ap LineTo (c .before .before .before .before .before .before .before .before .before .point-at .ensures)) (c .go-on .ensures)
 
 same-length : tie.Need-same-length Inv-loop μ-loop
 same-length c = c .before .before .loop .inv .bytes
@@ -56,7 +45,7 @@ same-length-2 : tie.Need-same-length-2 Inv-loop μ-loop
 same-length-2 c = c .before .before .loop .inv .floats
 
 returns : tie.Need-returns Inv-loop μ-loop
-returns c = run-over (c .before .before .loop .inv) 1 (omega arith) (c .before .before .before .before .before .before .before .before .pre) (c .before .is-next .ensures) (c .if1 .left)
+returns c = run-over (c .before .before .loop .inv) 1 (omega arith) (c .before .before .before .before .before .before .before .pre) (c .before .is-next .ensures) (c .if1 .left)
 
 pub play-lines-spec : {M : Type 1} → statement M
 play-lines-spec =
@@ -68,10 +57,7 @@ play-lines-spec =
     is-next-requires
     point-at-requires
     line-to-requires
-    one-if-requires
-    add-refused
-    add-i
-    add-at
+    go-on-requires
     loop-less
     loop-again
     same-length
