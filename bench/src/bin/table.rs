@@ -333,6 +333,7 @@ fn main() {
         looping(what, start, &calls[1..]);
     }
     building("build: mixed", &mixed);
+    building("build: outlines", &outlines(20_000));
     for (what, weight) in [("weight 1, one quad each", 1.0), ("weight 0.9", 0.9), ("quarter circles' weight, 0.707", 0.5f32.sqrt()), ("weight 0.5", 0.5), ("weight 8.3", 8.3), ("weight 100", 100.0)] {
         let conics: Vec<Call> = (0..1000).map(|_| Call::Conic(r.point(100), r.point(100), weight)).collect();
         building(&format!("conics: {what}"), &conics);
@@ -372,6 +373,20 @@ fn main() {
     row("root, throughput (both called)", "root", best(4096, || run(a, &mut out), || run(b, &mut out2)));
     let chain = |f: extern "C" fn(f32) -> f32| _ = black_box(xs.iter().fold(2.0f32, |x, y| f(x + y)));
     row("root, latency (both called)", "root", best(4096, || chain(a), || chain(b)));
+}
+
+/// Closed figures of 3 to 14 lines and quads, each behind a move.
+fn outlines(n: usize) -> Vec<Call> {
+    let r = &mut Rng(0x9e37_79b9);
+    let mut calls = Vec::new();
+    while calls.len() < n {
+        calls.push(Call::Move(r.point(100)));
+        for _ in 0..3 + r.below(12) {
+            calls.push(if r.below(3) == 0 { Call::Line(r.point(100)) } else { Call::Quad(r.point(100), r.point(100)) });
+        }
+        calls.push(Call::Close);
+    }
+    calls
 }
 
 /// A path of lines about 2 long.
