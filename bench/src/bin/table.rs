@@ -334,6 +334,7 @@ fn main() {
     }
     building("build: mixed", &mixed);
     building("build: outlines", &outlines(20_000));
+    building("build: each kind in turn", &in_turn(20_000));
     for (what, weight) in [("weight 1, one quad each", 1.0), ("weight 0.9", 0.9), ("quarter circles' weight, 0.707", 0.5f32.sqrt()), ("weight 0.5", 0.5), ("weight 8.3", 8.3), ("weight 100", 100.0)] {
         let conics: Vec<Call> = (0..1000).map(|_| Call::Conic(r.point(100), r.point(100), weight)).collect();
         building(&format!("conics: {what}"), &conics);
@@ -387,6 +388,20 @@ fn outlines(n: usize) -> Vec<Call> {
         calls.push(Call::Close);
     }
     calls
+}
+
+/// A move, a line, a quad, a cubic and a close, over and over: no kind stands twice in a row, and the next one is easily guessed.
+fn in_turn(n: usize) -> Vec<Call> {
+    let r = &mut Rng(0x9e37_79b9);
+    (0..n)
+        .map(|i| match i % 5 {
+            0 => Call::Move(r.point(100)),
+            1 => Call::Line(r.point(100)),
+            2 => Call::Quad(r.point(100), r.point(100)),
+            3 => Call::Cubic(r.point(100), r.point(100), r.point(100)),
+            _ => Call::Close,
+        })
+        .collect()
 }
 
 /// A path of lines about 2 long.
