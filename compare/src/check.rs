@@ -16,8 +16,22 @@ type Checked = Result<(), Differs>;
 
 static SEEN: [AtomicU64; 16] = [const { AtomicU64::new(0) }; 16];
 const NAMES: [&str; 16] = [
-    "", "refusals 1", "2", "3", "4", "5", "6", "7", "8", "9", "drawn whole", "cut", "not dashed (too many intervals for the reference)", "builder calls",
-    "conics split", "damaged paths",
+    "",
+    "refusals 1",
+    "2",
+    "3",
+    "4",
+    "5",
+    "6",
+    "7",
+    "8",
+    "9",
+    "drawn whole",
+    "cut",
+    "not dashed (too many intervals for the reference)",
+    "builder calls",
+    "conics split",
+    "damaged paths",
 ];
 
 fn seen(what: usize) {
@@ -506,9 +520,7 @@ impl Given {
 fn flattening(g: &Given, tolerance: f32, flat: Option<&Flat>, lens: (usize, usize)) -> Checked {
     let (mut out, mut ends) = (Floats::new(lens.0), Ends::new(lens.1));
     // SAFETY: the path is read; the outputs are lent with their own lengths.
-    let got = g.ask(|v, n, p, m| unsafe {
-        ffi::hz_flatten(v, n, p, m, tolerance, out.lent.as_mut_ptr(), lens.0, ends.lent.as_mut_ptr(), lens.1)
-    });
+    let got = g.ask(|v, n, p, m| unsafe { ffi::hz_flatten(v, n, p, m, tolerance, out.lent.as_mut_ptr(), lens.0, ends.lent.as_mut_ptr(), lens.1) });
     let mut number = if lens.0 % 2 == 1 { 1 } else { g.refusal() };
     if let (0, Some(f)) = (number, flat) {
         if lens.0 < f.points.len() || lens.1 < f.ends.len() {

@@ -28,7 +28,11 @@ fn best(n: usize, mut run: impl FnMut()) -> f64 {
 fn differs(b: u32) -> bool {
     let x = f32::from_bits(b);
     let (got, want) = (own(x), x.sqrt());
-    if want.is_nan() { !got.is_nan() } else { got.to_bits() != want.to_bits() }
+    if want.is_nan() {
+        !got.is_nan()
+    } else {
+        got.to_bits() != want.to_bits()
+    }
 }
 
 fn main() {

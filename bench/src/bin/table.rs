@@ -144,9 +144,13 @@ fn building(what: &str, calls: &[Call]) {
     assert_eq!(played(calls, &mut verbs, &mut points), 0);
     let laid = built(calls).build();
     assert!(laid.points().iter().flat_map(|p| [p.x, p.y]).zip(&points).all(|(a, b)| a.to_bits() == b.to_bits()));
-    let times = best(calls.len(), || drop(black_box(built(black_box(calls)))), || {
-        black_box(played(black_box(calls), &mut verbs, &mut points));
-    });
+    let times = best(
+        calls.len(),
+        || drop(black_box(built(black_box(calls)))),
+        || {
+            black_box(played(black_box(calls), &mut verbs, &mut points));
+        },
+    );
     row(&format!("{what}, call by call through C"), "call", times);
     let (kinds, numbers) = encoded(calls);
     let times = best(calls.len(), || drop(black_box(built(black_box(calls)))), || _ = black_box(replayed(&kinds, &numbers, &mut verbs, &mut points)));
@@ -203,10 +207,7 @@ struct Given {
 }
 
 fn given(p: &Path) -> Given {
-    Given {
-        verbs: p.verbs().iter().map(|v| *v as u8).collect(),
-        points: p.points().iter().flat_map(|p| [p.x, p.y]).collect(),
-    }
+    Given { verbs: p.verbs().iter().map(|v| *v as u8).collect(), points: p.points().iter().flat_map(|p| [p.x, p.y]).collect() }
 }
 
 fn flattening(what: &str, calls: &[Call], tolerance: f32) {
@@ -283,19 +284,27 @@ fn dashing(what: &str, calls: &[Call], intervals: &[f32]) {
 
 fn convexity(what: &str, points: &[Vec2]) {
     let floats: Vec<f32> = points.iter().flat_map(|p| [p.x, p.y]).collect();
-    let times = best(points.len(), || _ = black_box(polygon_convexity(black_box(points))), || {
-        // SAFETY: the floats are read.
-        _ = black_box(unsafe { ffi::hz_polygon_convexity(black_box(&floats).as_ptr(), floats.len()) });
-    });
+    let times = best(
+        points.len(),
+        || _ = black_box(polygon_convexity(black_box(points))),
+        || {
+            // SAFETY: the floats are read.
+            _ = black_box(unsafe { ffi::hz_polygon_convexity(black_box(&floats).as_ptr(), floats.len()) });
+        },
+    );
     row(what, "point", times);
 }
 
 fn bounds(path: &Path) {
     let g = given(path);
-    let times = best(path.points().len(), || _ = black_box(black_box(path).bounds()), || {
-        // SAFETY: the path is read.
-        _ = black_box(unsafe { ffi::hz_bounds(g.verbs.as_ptr(), g.verbs.len(), g.points.as_ptr(), g.points.len()) });
-    });
+    let times = best(
+        path.points().len(),
+        || _ = black_box(black_box(path).bounds()),
+        || {
+            // SAFETY: the path is read.
+            _ = black_box(unsafe { ffi::hz_bounds(g.verbs.as_ptr(), g.verbs.len(), g.points.as_ptr(), g.points.len()) });
+        },
+    );
     row("bounds (the library checks the path too)", "point", times);
 }
 
@@ -328,14 +337,23 @@ fn main() {
     let mut closes = vec![Call::Close; 20_000];
     closes[0] = Call::Move(r.point(100));
     let start = r.point(100);
-    for (what, calls) in [("build: moves", &moves), ("build: lines", &lines), ("build: quads", &quads), ("build: cubics", &cubics), ("build: closes", &closes)] {
+    for (what, calls) in
+        [("build: moves", &moves), ("build: lines", &lines), ("build: quads", &quads), ("build: cubics", &cubics), ("build: closes", &closes)]
+    {
         building(what, calls);
         looping(what, start, &calls[1..]);
     }
     building("build: mixed", &mixed);
     building("build: outlines", &outlines(20_000));
     building("build: each kind in turn", &in_turn(20_000));
-    for (what, weight) in [("weight 1, one quad each", 1.0), ("weight 0.9", 0.9), ("quarter circles' weight, 0.707", 0.5f32.sqrt()), ("weight 0.5", 0.5), ("weight 8.3", 8.3), ("weight 100", 100.0)] {
+    for (what, weight) in [
+        ("weight 1, one quad each", 1.0),
+        ("weight 0.9", 0.9),
+        ("quarter circles' weight, 0.707", 0.5f32.sqrt()),
+        ("weight 0.5", 0.5),
+        ("weight 8.3", 8.3),
+        ("weight 100", 100.0),
+    ] {
         let conics: Vec<Call> = (0..1000).map(|_| Call::Conic(r.point(100), r.point(100), weight)).collect();
         building(&format!("conics: {what}"), &conics);
         looping(&format!("conics: {what}"), start, &conics);
