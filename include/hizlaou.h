@@ -113,6 +113,13 @@ typedef struct {
     uint8_t known;
 } HzNote;
 
+/* How many segments a curve takes, and whether more were wanted than it may have. A curve that is held back looks faceted: Wang's bound asks for
+ * more than HZ_MAX_SEGMENTS lines. A count of HZ_MAX_SEGMENTS alone does not say so: it is also the right one for a curve that asks for just so many. */
+typedef struct {
+    uint32_t count;           /* 1 to HZ_MAX_SEGMENTS */
+    bool held;                /* held back: s is +inf, or above 0 with its rounded root over HZ_MAX_SEGMENTS */
+} HzSegmentCount;
+
 /* A flattening's totals: points is starts + lines + counts + closings, and polylines equals starts. All 0 in a refusal. */
 typedef struct {
     size_t points;            /* points written, in all polylines together */
@@ -121,11 +128,13 @@ typedef struct {
     size_t lines;
     size_t counts;            /* the sum of all curves' N */
     size_t closings;          /* closing points that were added */
+    size_t held;              /* curves that were held back at HZ_MAX_SEGMENTS: hz_carried_count tells which */
     uint8_t refused;          /* 1, 4, 5, 6 or 3, in this order */
 } HzFlattened;
 
 typedef struct {
     size_t count;             /* 0 for a verb that is no curve, past the end, and in a refusal */
+    bool held;                /* whether the curve was held back; false where count is 0 */
     uint8_t refused;          /* 1, 4, 5 or 6 */
 } HzCarried;
 
@@ -161,6 +170,7 @@ typedef struct {
     size_t points;            /* points in the dash buffer */
     size_t scratch;           /* points in the scratch */
     size_t polylines;         /* polylines in the scratch: so many numbers in `ends` */
+    size_t held;              /* curves of the path that were held back at HZ_MAX_SEGMENTS */
     uint8_t kind;             /* HZ_WHOLE, HZ_CUT or HZ_REFUSED */
     uint8_t fill_rule;        /* the path's, where cut */
     uint8_t refused;          /* 1, 4, 5, 6, 8, 3 for the scratch, 3 for the dash buffers, in this order */
@@ -177,12 +187,13 @@ typedef struct {
 /* IEEE 754 squareRoot, nearest, ties to even. */
 float hz_sqrt(float x);
 
-/* The segment count of s, Wang's squared count: 1 for NaN or s <= 0, else the rounded root rounded up, held to 1 to HZ_MAX_SEGMENTS. */
-uint32_t hz_segment_count(float squared);
+/* The segment count of s, Wang's squared count: 1 for NaN or s <= 0, HZ_MAX_SEGMENTS for +inf, else the rounded root rounded up, at most
+ * HZ_MAX_SEGMENTS; and whether it was held back. */
+HzSegmentCount hz_segment_count(float squared);
 
-/* A curve's segment count at a tolerance. */
-uint32_t hz_quad_segment_count(HzVec2 p0, HzVec2 p1, HzVec2 p2, float tolerance);
-uint32_t hz_cubic_segment_count(HzVec2 p0, HzVec2 p1, HzVec2 p2, HzVec2 p3, float tolerance);
+/* A curve's segment count at a tolerance, and whether it was held back. */
+HzSegmentCount hz_quad_segment_count(HzVec2 p0, HzVec2 p1, HzVec2 p2, float tolerance);
+HzSegmentCount hz_cubic_segment_count(HzVec2 p0, HzVec2 p1, HzVec2 p2, HzVec2 p3, float tolerance);
 
 /* A curve's point at t. */
 HzVec2 hz_eval_quad(HzVec2 p0, HzVec2 p1, HzVec2 p2, float t);
@@ -229,7 +240,7 @@ uint8_t hz_check(const uint8_t *verbs, size_t verbs_len, const float *points, si
 HzFlattened hz_flatten(const uint8_t *verbs, size_t verbs_len, const float *points, size_t points_len, float tolerance, float *out, size_t out_len,
                        size_t *ends, size_t ends_len);
 
-/* The N that the curve at verb `index` is flattened with. */
+/* The N that the curve at verb `index` is flattened with, and whether it was held back. */
 HzCarried hz_carried_count(const uint8_t *verbs, size_t verbs_len, const float *points, size_t points_len, float tolerance, size_t index);
 
 /* ---- questions */

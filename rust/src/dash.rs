@@ -50,6 +50,14 @@ impl Dashed {
             Dashed::Cut { path, .. } => path,
         }
     }
+
+    /// How many curves were held back when the path was flattened for the cut: 0 where it is drawn whole.
+    pub fn held(&self) -> usize {
+        match self {
+            Dashed::Whole => 0,
+            Dashed::Cut { polylines, .. } => polylines.totals().held,
+        }
+    }
 }
 
 /// Cuts a path into the drawn pieces of a pattern. Refused with 8 over 64 intervals, with 3 over 65,536 verbs of dashes.
@@ -102,7 +110,7 @@ pub fn dash_path(path: &Path, dash: &Dash, tolerance: f32) -> Result<Dashed, Ref
     points.truncate(r.points);
     points.shrink_to_fit();
     let path = Path::of_dash(&verbs[..r.verbs], points, FillRule::of(r.fill_rule));
-    Ok(Dashed::Cut { path, polylines: size.filled(scratch, ends, r.scratch, r.polylines) })
+    Ok(Dashed::Cut { path, polylines: size.filled(scratch, ends, r.scratch, r.polylines, r.held) })
 }
 
 /// The intervals of a line style, 0 to 8; style 0 has none. Refused with 9 over 8.

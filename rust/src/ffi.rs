@@ -1,5 +1,6 @@
 //! The C interface, as include/hizlaou.h has it, for callers that lend their own buffers. A slice goes as a pointer to its first element and its
 //! length in elements; with a length of 0 the pointer isn't read. Calls are unsafe for these pointers alone.
+use crate::flatten::SegmentCount;
 use crate::path::{Rect, Vec2};
 
 /// A builder's state. A `fill_rule` of 0 is the non-zero rule; `noted` and `started` are false where 0.
@@ -64,6 +65,7 @@ pub struct Flattened {
     pub lines: usize,
     pub counts: usize,
     pub closings: usize,
+    pub held: usize,
     pub refused: u8,
 }
 
@@ -71,6 +73,7 @@ pub struct Flattened {
 #[derive(Clone, Copy, Debug)]
 pub struct Carried {
     pub count: usize,
+    pub held: bool,
     pub refused: u8,
 }
 
@@ -112,6 +115,7 @@ pub struct Dashed {
     pub points: usize,
     pub scratch: usize,
     pub polylines: usize,
+    pub held: usize,
     pub kind: u8,
     pub fill_rule: u8,
     pub refused: u8,
@@ -127,9 +131,9 @@ pub struct Outline {
 
 extern "C" {
     pub fn hz_sqrt(x: f32) -> f32;
-    pub fn hz_segment_count(squared: f32) -> u32;
-    pub fn hz_quad_segment_count(p0: Vec2, p1: Vec2, p2: Vec2, tolerance: f32) -> u32;
-    pub fn hz_cubic_segment_count(p0: Vec2, p1: Vec2, p2: Vec2, p3: Vec2, tolerance: f32) -> u32;
+    pub fn hz_segment_count(squared: f32) -> SegmentCount;
+    pub fn hz_quad_segment_count(p0: Vec2, p1: Vec2, p2: Vec2, tolerance: f32) -> SegmentCount;
+    pub fn hz_cubic_segment_count(p0: Vec2, p1: Vec2, p2: Vec2, p3: Vec2, tolerance: f32) -> SegmentCount;
     pub fn hz_eval_quad(p0: Vec2, p1: Vec2, p2: Vec2, t: f32) -> Vec2;
     pub fn hz_eval_cubic(p0: Vec2, p1: Vec2, p2: Vec2, p3: Vec2, t: f32) -> Vec2;
     pub fn hz_tolerance_for_scale(tolerance: f32, max_scale: f32) -> f32;
@@ -142,7 +146,16 @@ extern "C" {
     pub fn hz_move_to(state: Builder, verbs: *mut u8, verbs_len: usize, points: *mut f32, points_len: usize, p: Vec2) -> Reply;
     pub fn hz_line_to(state: Builder, verbs: *mut u8, verbs_len: usize, points: *mut f32, points_len: usize, p: Vec2) -> Reply;
     pub fn hz_quad_to(state: Builder, verbs: *mut u8, verbs_len: usize, points: *mut f32, points_len: usize, ctrl: Vec2, to: Vec2) -> Reply;
-    pub fn hz_conic_to(state: Builder, verbs: *mut u8, verbs_len: usize, points: *mut f32, points_len: usize, ctrl: Vec2, to: Vec2, weight: f32) -> Reply;
+    pub fn hz_conic_to(
+        state: Builder,
+        verbs: *mut u8,
+        verbs_len: usize,
+        points: *mut f32,
+        points_len: usize,
+        ctrl: Vec2,
+        to: Vec2,
+        weight: f32,
+    ) -> Reply;
     pub fn hz_cubic_to(state: Builder, verbs: *mut u8, verbs_len: usize, points: *mut f32, points_len: usize, c0: Vec2, c1: Vec2, to: Vec2) -> Reply;
     pub fn hz_close(state: Builder, verbs: *mut u8, verbs_len: usize, points: *mut f32, points_len: usize) -> Reply;
     pub fn hz_replay(

@@ -8,6 +8,15 @@ pub const DEFAULT_TOLERANCE: f32 = 0.25;
 /// The most lines of a single curve.
 pub const MAX_SEGMENTS: u32 = 1000;
 
+/// How many lines a curve becomes, and whether more were wanted than the [`MAX_SEGMENTS`] that it may have: held back, it looks faceted. A count of
+/// 1,000 alone does not say so, since it is also the right one for a curve that asks for just so many.
+#[repr(C)]
+#[derive(Debug, Clone, Copy, PartialEq, Eq, Hash, Default)]
+pub struct SegmentCount {
+    pub count: u32,
+    pub held: bool,
+}
+
 /// What a flattening counts. `points` is the sum of `starts`, `lines`, `counts` and `closings`, and `polylines` equals `starts`.
 #[derive(Debug, Clone, Copy, PartialEq, Eq, Hash, Default)]
 pub struct Totals {
@@ -21,6 +30,8 @@ pub struct Totals {
     pub counts: usize,
     /// Added closings.
     pub closings: usize,
+    /// Curves that were held back at [`MAX_SEGMENTS`]: [`held_curves`] tells which.
+    pub held: usize,
 }
 
 /// The polylines of a flattened path.
@@ -81,22 +92,30 @@ pub(crate) struct Size {
     closes: usize,
 }
 
+/// The verbs of a path, each with the pen before it and its points.
+fn with_pen(path: &Path) -> impl Iterator<Item = (Verb, Vec2, &[Vec2])> + '_ {
+    let (mut start, mut pen) = (Vec2::ZERO, Vec2::ZERO);
+    path.segments().map(move |(verb, p)| {
+        let from = pen;
+        if verb == Verb::MoveTo {
+            start = p[0];
+        }
+        pen = *p.last().unwrap_or(&start);
+        (verb, from, p)
+    })
+}
+
 impl Size {
     pub(crate) fn of(path: &Path, tolerance: f32) -> Size {
         let mut size = Size { lines: 0, counts: 0, moves: 0, closes: 0 };
-        let (mut start, mut pen) = (Vec2::ZERO, Vec2::ZERO);
-        for (verb, p) in path.segments() {
+        for (verb, pen, p) in with_pen(path) {
             match verb {
-                Verb::MoveTo => {
-                    size.moves += 1;
-                    start = p[0];
-                }
+                Verb::MoveTo => size.moves += 1,
                 Verb::LineTo => size.lines += 1,
-                Verb::QuadTo => size.counts += quad_segment_count(pen, p[0], p[1], tolerance) as usize,
-                Verb::CubicTo => size.counts += cubic_segment_count(pen, p[0], p[1], p[2], tolerance) as usize,
+                Verb::QuadTo => size.counts += quad_segment_count(pen, p[0], p[1], tolerance).count as usize,
+                Verb::CubicTo => size.counts += cubic_segment_count(pen, p[0], p[1], p[2], tolerance).count as usize,
                 Verb::Close => size.closes += 1,
             }
-            pen = *p.last().unwrap_or(&start);
         }
         size
     }
@@ -106,8 +125,8 @@ impl Size {
         (vec![Vec2::ZERO; self.moves + self.lines + self.counts + self.closes], vec![0; self.moves])
     }
 
-    /// The polylines of a flattening that wrote so many points and polylines.
-    pub(crate) fn filled(&self, mut points: Vec<Vec2>, mut ends: Vec<usize>, written: usize, polylines: usize) -> Polylines {
+    /// The polylines of a flattening that wrote so many points and polylines, and held so many curves back.
+    pub(crate) fn filled(&self, mut points: Vec<Vec2>, mut ends: Vec<usize>, written: usize, polylines: usize, held: usize) -> Polylines {
         points.truncate(written);
         ends.truncate(polylines);
         let totals = Totals {
@@ -117,6 +136,7 @@ impl Size {
             lines: self.lines,
             counts: self.counts,
             closings: written - polylines - self.lines - self.counts,
+            held,
         };
         Polylines { points, ends, totals }
     }
@@ -143,18 +163,13 @@ pub fn flatten(path: &Path, tolerance: f32) -> Result<Polylines, Refusal> {
     Refusal::check(r.refused)?;
     points.truncate(r.points);
     ends.truncate(r.polylines);
-    let totals = Totals {
-        points: r.points,
-        polylines: r.polylines,
-        starts: r.starts,
-        lines: r.lines,
-        counts: r.counts,
-        closings: r.closings,
-    };
+    let totals =
+        Totals { points: r.points, polylines: r.polylines, starts: r.starts, lines: r.lines, counts: r.counts, closings: r.closings, held: r.held };
     Ok(Polylines { points, ends, totals })
 }
 
-/// The N that the curve at a verb's index is flattened with: 0 for a verb that is no curve, and past the end.
+/// The N that the curve at a verb's index is flattened with, and whether it was held back: 0 for a verb that is no curve, and past the end. For all
+/// curves of a path ask [`held_curves`], which reads the path once.
 ///
 /// ```
 /// # fn main() -> Result<(), hizlaou::Refusal> {
@@ -162,35 +177,64 @@ pub fn flatten(path: &Path, tolerance: f32) -> Result<Polylines, Refusal> {
 /// let mut b = PathBuilder::new();
 /// b.move_to(Vec2::ZERO)?.quad_to(Vec2::new(8.0, 8.0), Vec2::new(16.0, 0.0))?;
 /// let path = b.build();
-/// assert_eq!(carried_count(&path, 0.25, 0)?, 0);
-/// assert_eq!(carried_count(&path, 0.25, 1)?, 5);
+/// assert_eq!(carried_count(&path, 0.25, 0)?.count, 0);
+/// assert_eq!(carried_count(&path, 0.25, 1)?.count, 5);
+/// assert!(carried_count(&path, 1e-6, 1)?.held);
 /// # Ok(()) }
 /// ```
-pub fn carried_count(path: &Path, tolerance: f32, index: usize) -> Result<u32, Refusal> {
+pub fn carried_count(path: &Path, tolerance: f32, index: usize) -> Result<SegmentCount, Refusal> {
     // SAFETY: verbs and points are only read.
     let r = path.ask(|v, l, p, m| unsafe { ffi::hz_carried_count(v, l, p, m, tolerance, index) });
     Refusal::check(r.refused)?;
-    Ok(r.count as u32)
+    Ok(SegmentCount { count: r.count as u32, held: r.held })
 }
 
-/// Segment count for a quadratic curve at a tolerance: 1 to 1,000.
+/// The verbs, by their index, of the curves that a flattening holds back at [`MAX_SEGMENTS`], first to last: as many as its total `held`.
 ///
 /// ```
-/// use hizlaou::{quad_segment_count, Vec2};
-/// assert_eq!(quad_segment_count(Vec2::ZERO, Vec2::new(8.0, 8.0), Vec2::new(16.0, 0.0), 0.25), 5);
+/// # fn main() -> Result<(), hizlaou::Refusal> {
+/// use hizlaou::{flatten, held_curves, PathBuilder, Vec2};
+/// let mut b = PathBuilder::new();
+/// b.move_to(Vec2::ZERO)?.line_to(Vec2::new(4.0, 0.0))?.quad_to(Vec2::new(8.0, 8.0), Vec2::new(16.0, 0.0))?;
+/// let path = b.build();
+/// assert_eq!(held_curves(&path, 0.25), []);
+/// assert_eq!(held_curves(&path, 1e-6), [2]);
+/// assert_eq!(flatten(&path, 1e-6)?.totals().held, 1);
+/// # Ok(()) }
 /// ```
-pub fn quad_segment_count(p0: Vec2, p1: Vec2, p2: Vec2, tolerance: f32) -> u32 {
+pub fn held_curves(path: &Path, tolerance: f32) -> Vec<usize> {
+    let held = |(index, (verb, pen, p)): (usize, (Verb, Vec2, &[Vec2]))| {
+        let count = match verb {
+            Verb::QuadTo => quad_segment_count(pen, p[0], p[1], tolerance),
+            Verb::CubicTo => cubic_segment_count(pen, p[0], p[1], p[2], tolerance),
+            Verb::MoveTo | Verb::LineTo | Verb::Close => return None,
+        };
+        count.held.then_some(index)
+    };
+    with_pen(path).enumerate().filter_map(held).collect()
+}
+
+/// Segment count for a quadratic curve at a tolerance: 1 to 1,000, and whether it was held back.
+///
+/// ```
+/// use hizlaou::{quad_segment_count, SegmentCount, Vec2};
+/// let (a, b, c) = (Vec2::ZERO, Vec2::new(8.0, 8.0), Vec2::new(16.0, 0.0));
+/// assert_eq!(quad_segment_count(a, b, c, 0.25), SegmentCount { count: 5, held: false });
+/// assert_eq!(quad_segment_count(a, b, c, 1e-6), SegmentCount { count: 1000, held: true });
+/// ```
+pub fn quad_segment_count(p0: Vec2, p1: Vec2, p2: Vec2, tolerance: f32) -> SegmentCount {
     // SAFETY: values only.
     unsafe { ffi::hz_quad_segment_count(p0, p1, p2, tolerance) }
 }
 
-/// Segment count for a cubic curve at a tolerance: 1 to 1,000.
+/// Segment count for a cubic curve at a tolerance: 1 to 1,000, and whether it was held back.
 ///
 /// ```
-/// use hizlaou::{cubic_segment_count, Vec2};
-/// assert_eq!(cubic_segment_count(Vec2::ZERO, Vec2::new(0.0, 8.0), Vec2::new(16.0, 8.0), Vec2::new(16.0, 0.0), 0.25), 9);
+/// use hizlaou::{cubic_segment_count, SegmentCount, Vec2};
+/// let (a, b, c, d) = (Vec2::ZERO, Vec2::new(0.0, 8.0), Vec2::new(16.0, 8.0), Vec2::new(16.0, 0.0));
+/// assert_eq!(cubic_segment_count(a, b, c, d, 0.25), SegmentCount { count: 9, held: false });
 /// ```
-pub fn cubic_segment_count(p0: Vec2, p1: Vec2, p2: Vec2, p3: Vec2, tolerance: f32) -> u32 {
+pub fn cubic_segment_count(p0: Vec2, p1: Vec2, p2: Vec2, p3: Vec2, tolerance: f32) -> SegmentCount {
     // SAFETY: values only.
     unsafe { ffi::hz_cubic_segment_count(p0, p1, p2, p3, tolerance) }
 }
@@ -223,12 +267,16 @@ pub fn tolerance_for_scale(tolerance: f32, max_scale: f32) -> f32 {
     unsafe { ffi::hz_tolerance_for_scale(tolerance, max_scale) }
 }
 
-/// The segment count of s, Wang's squared count: 1 for NaN or s <= 0, else the rounded root rounded up, held to 1 to 1,000.
+/// The segment count of s, Wang's squared count: 1 for NaN or s <= 0, 1,000 for +∞, else the rounded root rounded up, at most 1,000. It was held back
+/// where s is +∞, or above 0 with its rounded root over 1,000.
 ///
 /// ```
-/// assert_eq!(hizlaou::segment_count(998_001.0), 999);
+/// use hizlaou::{segment_count, SegmentCount};
+/// assert_eq!(segment_count(998_001.0), SegmentCount { count: 999, held: false });
+/// assert_eq!(segment_count(1_000_000.0), SegmentCount { count: 1000, held: false });
+/// assert_eq!(segment_count(f32::INFINITY), SegmentCount { count: 1000, held: true });
 /// ```
-pub fn segment_count(squared: f32) -> u32 {
+pub fn segment_count(squared: f32) -> SegmentCount {
     // SAFETY: values only.
     unsafe { ffi::hz_segment_count(squared) }
 }

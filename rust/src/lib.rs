@@ -27,8 +27,8 @@ mod refusal;
 
 pub use dash::{dash_path, line_style, Dash, Dashed, MAX_INTERVALS};
 pub use flatten::{
-    carried_count, cubic_segment_count, eval_cubic, eval_quad, flatten, quad_segment_count, segment_count, sqrt, tolerance_for_scale, Polylines,
-    Totals, DEFAULT_TOLERANCE, MAX_SEGMENTS,
+    carried_count, cubic_segment_count, eval_cubic, eval_quad, flatten, held_curves, quad_segment_count, segment_count, sqrt, tolerance_for_scale,
+    Polylines, SegmentCount, Totals, DEFAULT_TOLERANCE, MAX_SEGMENTS,
 };
 pub use path::{polygon_convexity, Convexity, FillRule, Path, PathBuilder, Rect, Replayed, Vec2, Verb, MAX_POINTS, MAX_VERBS};
 pub use refusal::Refusal;

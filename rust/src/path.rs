@@ -115,10 +115,7 @@ impl Rect {
 
     /// The empty box, from (+∞, +∞) to (−∞, −∞).
     pub const fn empty() -> Rect {
-        Rect {
-            min: Vec2::new(f32::INFINITY, f32::INFINITY),
-            max: Vec2::new(f32::NEG_INFINITY, f32::NEG_INFINITY),
-        }
+        Rect { min: Vec2::new(f32::INFINITY, f32::INFINITY), max: Vec2::new(f32::NEG_INFINITY, f32::NEG_INFINITY) }
     }
 
     /// Whether the box holds no point.

@@ -17,7 +17,9 @@ fn outline(points: &[(f32, f32)]) -> Result<Path, Refusal> {
 }
 
 fn runs(points: &[(f32, f32)], intervals: &[f32]) -> Result<Vec<(Verb, Vec2)>, Refusal> {
-    let Dashed::Cut { path, .. } = dash_path(&outline(points)?, &Dash::new(intervals.to_vec(), 0.0), 0.25)? else { return Ok(vec![]) };
+    let Dashed::Cut { path, .. } = dash_path(&outline(points)?, &Dash::new(intervals.to_vec(), 0.0), 0.25)? else {
+        return Ok(vec![]);
+    };
     Ok(path.segments().map(|(v, p)| (v, p[0])).collect())
 }
 
@@ -26,11 +28,38 @@ const L: Verb = Verb::LineTo;
 
 #[test]
 fn counts() {
-    for (s, n) in [(1.0, 1), (1.000_000_1, 1), (1.000_000_24, 2), (998_001.0, 999), (1e6, 1000), (f32::INFINITY, 1000), (f32::NAN, 1)] {
-        assert_eq!(segment_count(s), n, "{s}");
+    for (s, n) in [(1.0, 1), (1.000_000_1, 1), (1.000_000_24, 2), (998_001.0, 999), (1e6, 1000), (f32::NAN, 1), (f32::NEG_INFINITY, 1), (-1e38, 1)] {
+        assert_eq!(segment_count(s), SegmentCount { count: n, held: false }, "{s}");
     }
-    assert_eq!(quad_segment_count(p(0., 0.), p(8., 0.), p(16., 0.), 0.25), 1);
+    assert_eq!(quad_segment_count(p(0., 0.), p(8., 0.), p(16., 0.), 0.25), SegmentCount { count: 1, held: false });
     assert_eq!(eval_cubic(p(0., 0.), p(0., 8.), p(16., 8.), p(16., 0.), 0.5), p(8., 6.));
+}
+
+#[test]
+fn counts_that_were_held_back() {
+    for s in [f32::from_bits(1e6f32.to_bits() + 1), f32::MAX, f32::INFINITY] {
+        assert_eq!(segment_count(s), SegmentCount { count: 1000, held: true }, "{s}");
+    }
+    // its second difference alone asks for more than 1,000 lines; the first is 0
+    let cubic = |x| cubic_segment_count(p(0., 0.), p(1., 0.), p(2., 0.), p(x, 0.), 0.25);
+    assert_eq!((cubic(3.), cubic(1e6)), (SegmentCount { count: 1, held: false }, SegmentCount { count: 1000, held: true }));
+}
+
+#[test]
+fn held_curves_are_counted_and_found() -> Checked {
+    let mut b = PathBuilder::new();
+    b.move_to(p(0., 0.))?.quad_to(p(8., 8.), p(16., 0.))?.quad_to(p(2e6, 0.), p(0., 0.))?.line_to(p(1., 1.))?;
+    b.cubic_to(p(2., 1.), p(3., 1.), p(1e6, 1.))?.close()?.quad_to(p(f32::INFINITY, 0.), p(1., 0.))?;
+    let path = b.build();
+    assert_eq!(held_curves(&path, 0.25), [2, 4, 6]);
+    assert_eq!(flatten(&path, 0.25)?.totals().held, 3);
+    let held = (0..8).filter_map(|i| carried_count(&path, 0.25, i).ok()?.held.then_some(i));
+    assert_eq!(held.collect::<Vec<_>>(), [2, 4, 6]);
+    // at a wide tolerance only the infinite one
+    assert_eq!((held_curves(&path, 1e6), flatten(&path, 1e6)?.totals().held), (vec![6], 1));
+    assert_eq!(dash_path(&path, &Dash::new(vec![1e6, 1e5], 0.), 0.25)?.held(), 3);
+    assert_eq!(dash_path(&path, &Dash::new(vec![], 0.), 0.25)?.held(), 0);
+    Ok(())
 }
 
 #[test]
@@ -52,10 +81,10 @@ fn a_cut_has_the_polylines_and_totals_that_flattening_gives() -> Checked {
     b.as_rounded_rect(Rect::new(p(0., 0.), p(16., 8.)), 2.0).move_to(p(3., 3.))?;
     let path = b.build();
     let flat = flatten(&path, 0.25)?;
-    assert_eq!(flat.totals(), Totals { points: 8, polylines: 1, starts: 1, lines: 1, counts: 5, closings: 1 });
+    assert_eq!(flat.totals(), Totals { points: 8, polylines: 1, starts: 1, lines: 1, counts: 5, closings: 1, held: 0 });
     assert_eq!((flat.len(), flat.ends(), flat.get(0).map(<[Vec2]>::len), flat.get(1)), (1, &[8][..], Some(8), None));
     assert_eq!(flat.iter().flatten().count(), flat.points().len());
-    assert_eq!(carried_count(&path, 0.25, 2)?, 5);
+    assert_eq!(carried_count(&path, 0.25, 2)?, SegmentCount { count: 5, held: false });
     let dashed = dash_path(&path, &Dash::new(line_style(3)?, 1.5), 0.25)?;
     let Dashed::Cut { path: cut, polylines } = &dashed else { panic!("cut") };
     assert_eq!(*polylines, flat);

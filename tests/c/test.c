@@ -28,6 +28,10 @@ static int same(HzVec2 a, HzVec2 b) {
     return memcmp(&a, &b, sizeof a) == 0;
 }
 
+static int counted(HzSegmentCount c, uint32_t count, bool held) {
+    return c.count == count && c.held == held;
+}
+
 /* Field by field, by bits: padding does not count. */
 static int same_state(const HzBuilder *a, const HzBuilder *b) {
     return a->verbs == b->verbs && a->points == b->points && memcmp(&a->start_x, &b->start_x, 9 * sizeof(float)) == 0 &&
@@ -186,6 +190,7 @@ static void flattening(void) {
     f = hz_flatten(NULL, 0, NULL, 0, 0.25f, NULL, 0, NULL, 0);
     CHECK(f.refused == HZ_OK && f.points == 0);
 
+    CHECK(f.held == 0);
     CHECK(hz_carried_count(verbs, 4, points, 8, 0.25f, 1).count == 5);
     CHECK(hz_carried_count(verbs, 4, points, 8, 0.25f, 2).count == 0);
     CHECK(hz_carried_count(verbs, 4, points, 8, 0.25f, 99).count == 0);
@@ -199,6 +204,39 @@ static void flattening(void) {
     static uint8_t many[HZ_MAX_VERBS + 1];
     CHECK(hz_check(many, HZ_MAX_VERBS + 1, NULL, 0) == HZ_OVER_LIMIT);
     CHECK(hz_check(many, HZ_MAX_VERBS, NULL, 0) == HZ_BAD_PATH);
+}
+
+/* Two curves that ask for more than they may have, the second an infinite one, and one that does not. */
+static void held_back(void) {
+    enum { POINTS = 2006 };
+    uint8_t verbs[] = {HZ_MOVE, HZ_QUAD, HZ_QUAD, HZ_CUBIC};
+    float points[] = {0, 0, 8, 8, 16, 0, 2e6f, 0, 16, 16, INFINITY, 0, 0, 0, 0, 16};
+    static float out[2 * POINTS], drawn[64];
+    size_t ends[1];
+    uint8_t laid[32];
+    HzFlattened f = hz_flatten(verbs, 4, points, 16, 0.25f, out, 2 * POINTS, ends, 1);
+    CHECK(f.refused == HZ_OK && f.points == POINTS && f.counts == 2005 && f.held == 2);
+    f = hz_flatten(verbs, 4, points, 16, 0.25f, out, 2 * POINTS - 2, ends, 1);
+    CHECK(f.refused == HZ_OUTPUT_FULL && f.held == 0);
+    f = hz_flatten(verbs, 4, points, 15, 0.25f, out, 2 * POINTS, ends, 1);
+    CHECK(f.refused == HZ_ODD_FLOATS && f.held == 0);
+
+    bool held[] = {false, false, true, true, false};
+    for (size_t i = 0; i < 5; i++) CHECK(hz_carried_count(verbs, 4, points, 16, 0.25f, i).held == held[i]);
+    HzCarried c = hz_carried_count(verbs, 4, points, 14, 0.25f, 2);
+    CHECK(c.refused == HZ_BAD_PATH && !c.held);
+
+    float pattern[] = {1e7f, 1};
+    HzDashed d = hz_dash_path(verbs, 3, points, 10, 0, pattern, 2, 0, 1e-7f, out, 2 * POINTS, ends, 1, laid, 32, drawn, 64);
+    CHECK(d.refused == HZ_OUTPUT_FULL && d.held == 0 && ends[0] == 2001);
+    static uint8_t many[POINTS];
+    static float far[2 * POINTS];
+    d = hz_dash_path(verbs, 3, points, 10, 0, pattern, 2, 0, 1e-7f, out, 2 * POINTS, ends, 1, many, POINTS, far, 2 * POINTS);
+    CHECK(d.kind == HZ_CUT && d.held == 2 && d.scratch == 2001);
+    d = hz_dash_path(verbs, 3, points, 10, 0, pattern, 0, 0, 1e-7f, out, 2 * POINTS, ends, 1, many, POINTS, far, 2 * POINTS);
+    CHECK(d.kind == HZ_WHOLE && d.held == 0);
+    d = hz_dash_path(verbs, 3, points, 10, 0, pattern, 2, 0, 1e-7f, out, 100, ends, 1, many, POINTS, far, 2 * POINTS);
+    CHECK(d.refused == HZ_OUTPUT_FULL && d.held == 0);
 }
 
 static void questions(void) {
@@ -239,9 +277,15 @@ static void questions(void) {
 static void values(void) {
     HzVec2 a = at(0, 0), b = at(8, 8), c = at(16, 0);
     CHECK(hz_sqrt(2.0f) == sqrtf(2.0f) && isnan(hz_sqrt(-1.0f)));
-    CHECK(hz_segment_count(998001.0f) == 999 && hz_segment_count(INFINITY) == HZ_MAX_SEGMENTS && hz_segment_count(NAN) == 1);
-    CHECK(hz_quad_segment_count(a, b, c, HZ_DEFAULT_TOLERANCE) == 5);
-    CHECK(hz_cubic_segment_count(a, at(0, 8), at(16, 8), c, HZ_DEFAULT_TOLERANCE) == 9);
+    CHECK(counted(hz_segment_count(998001.0f), 999, false) && counted(hz_segment_count(NAN), 1, false) && counted(hz_segment_count(-INFINITY), 1, false));
+    CHECK(counted(hz_segment_count(1e6f), HZ_MAX_SEGMENTS, false));
+    CHECK(counted(hz_segment_count(nextafterf(1e6f, INFINITY)), HZ_MAX_SEGMENTS, true));
+    CHECK(counted(hz_segment_count(INFINITY), HZ_MAX_SEGMENTS, true));
+    CHECK(counted(hz_quad_segment_count(a, b, c, HZ_DEFAULT_TOLERANCE), 5, false));
+    CHECK(counted(hz_quad_segment_count(a, b, c, 0), HZ_MAX_SEGMENTS, true));
+    CHECK(counted(hz_cubic_segment_count(a, at(0, 8), at(16, 8), c, HZ_DEFAULT_TOLERANCE), 9, false));
+    /* the second difference alone asks for more than it may have */
+    CHECK(counted(hz_cubic_segment_count(a, at(1, 0), at(2, 0), at(1e6f, 0), HZ_DEFAULT_TOLERANCE), HZ_MAX_SEGMENTS, true));
     CHECK(same(hz_eval_quad(a, b, c, 0.5f), at(8, 4)));
     CHECK(same(hz_eval_cubic(a, at(0, 8), at(16, 8), c, 0.5f), at(8, 6)));
     CHECK(hz_tolerance_for_scale(0.25f, 2.0f) == 0.125f && hz_tolerance_for_scale(0.25f, 0.0f) == 0.25f);
@@ -325,6 +369,7 @@ int main(void) {
     builder_refusals();
     replayed();
     flattening();
+    held_back();
     questions();
     dashing();
     printf("C interface: %d checks passed, %d failed\n", passed, failed);

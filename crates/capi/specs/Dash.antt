@@ -18,7 +18,7 @@ use Rattle.capi.specs.declared.HzOutline.{HzOutline}
 use Rattle.capi.specs.Builder.{ruleIn, ruleOut, flagIn, flagOut}
 
 abbrev pub uncut : ℕ → ℕ → HzDashed
-uncut kind refused = record { verbs = 0; points = 0; scratch = 0; polylines = 0; kind = kind; «fill_rule» = 0; refused = refused }
+uncut kind refused = record { verbs = 0; points = 0; scratch = 0; polylines = 0; held = 0; kind = kind; «fill_rule» = 0; refused = refused }
 
 abbrev pub cutOut : Outline → HzDashed
 cutOut o =
@@ -27,6 +27,7 @@ cutOut o =
       points = o .points;
       scratch = o .scratch;
       polylines = o .polylines;
+      held = o .held;
       kind = 1;
       «fill_rule» = ruleOut (o .rule);
       refused = 0;
@@ -59,7 +60,7 @@ hzDashing verbs points rule intervals phase tolerance scratch ends vs fs =
     dashOutcomeOut (dashing verbs points rule intervals phase tolerance scratch ends vs fs)
 
 abbrev pub outlineIn : HzDashed → Outline
-outlineIn a = record { verbs = a .verbs; points = a .points; scratch = a .scratch; polylines = a .polylines; rule = ruleIn (a .«fill_rule») }
+outlineIn a = record { verbs = a .verbs; points = a .points; scratch = a .scratch; polylines = a .polylines; held = a .held; rule = ruleIn (a .«fill_rule») }
 
 unfoldable pub dashedIn : HzDashed → Dashed
 dashedIn a = cond (eqb (a .kind) 0) Whole (cond (eqb (a .kind) 1) (Cut (outlineIn a)) (Refused (a .refused)))

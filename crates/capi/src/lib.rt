@@ -2,10 +2,10 @@
 ghost use mathlib.Core.Path.{_≡_};
 ghost use lib.Ieee.{binary32};
 ghost use Rattle.float.specs.Root.{squareRoot};
-ghost use Rattle.float.specs.Count.{segmentCount};
+ghost use Rattle.float.specs.Count.{segmentCounted};
 ghost use Rattle.path.specs.Check.{badPath};
 ghost use Rattle.path.specs.Rect.{isEmptyRect, holds, widthOf, heightOf};
-ghost use Rattle.curve.specs.Count.{quadCount, cubicCount, evalQuad, evalCubic, scaledTolerance};
+ghost use Rattle.curve.specs.Count.{quadS, cubicS, evalQuad, evalCubic, scaledTolerance};
 ghost use Rattle.flatten.specs.Flatten.{outcome as flattened, flatten, carriedCount};
 ghost use Rattle.builder.specs.Build.{fresh, told, currentOf, noteOf, called};
 ghost use Rattle.builder.specs.declared.Call.the-variants.{MoveTo, LineTo, QuadTo, ConicTo, CubicTo, Close, WithFillRule, AsRoundedRect};
@@ -32,6 +32,7 @@ use dash::Dashed;
 use dash::Outline;
 use flatten::Carried;
 use flatten::Flattened;
+use float::SegmentCount;
 use path::FillRule;
 use path::Rect;
 use pattern::LineStyle;
@@ -47,8 +48,8 @@ pub extern "C" fn hz_sqrt(x: f32) -> f32
 }
 
 #[no_mangle]
-pub extern "C" fn hz_segment_count(squared: f32) -> u32
-    ensures { λ r. ⌜ r ≡ segmentCount squared ⌝ }
+pub extern "C" fn hz_segment_count(squared: f32) -> SegmentCount
+    ensures { λ r. ⌜ r ≡ segmentCounted squared ⌝ }
 {
     float::segment_count(squared)
 }
@@ -56,8 +57,13 @@ pub extern "C" fn hz_segment_count(squared: f32) -> u32
 // ---- curves
 
 #[no_mangle]
-pub extern "C" fn hz_quad_segment_count(p0: Vec2, p1: Vec2, p2: Vec2, tolerance: f32) -> u32
-    ensures { λ r. ⌜ r ≡ quadCount tolerance p0 p1 p2 ⌝ }
+pub extern "C" fn hz_quad_segment_count(
+    p0: Vec2,
+    p1: Vec2,
+    p2: Vec2,
+    tolerance: f32,
+) -> SegmentCount
+    ensures { λ r. ⌜ r ≡ segmentCounted (quadS tolerance p0 p1 p2) ⌝ }
 {
     curve::quad_segment_count(p0, p1, p2, tolerance)
 }
@@ -69,8 +75,8 @@ pub extern "C" fn hz_cubic_segment_count(
     p2: Vec2,
     p3: Vec2,
     tolerance: f32,
-) -> u32
-    ensures { λ r. ⌜ r ≡ cubicCount tolerance p0 p1 p2 p3 ⌝ }
+) -> SegmentCount
+    ensures { λ r. ⌜ r ≡ segmentCounted (cubicS tolerance p0 p1 p2 p3) ⌝ }
 {
     curve::cubic_segment_count(p0, p1, p2, p3, tolerance)
 }
@@ -561,6 +567,7 @@ pub struct HzDashed {
     pub points: usize,
     pub scratch: usize,
     pub polylines: usize,
+    pub held: usize,
     pub kind: u8,
     pub fill_rule: u8,
     pub refused: u8,
@@ -581,6 +588,7 @@ fn not_cut(kind: u8, refused: u8) -> HzDashed
         points: 0,
         scratch: 0,
         polylines: 0,
+        held: 0,
         kind,
         fill_rule: 0,
         refused,
@@ -596,6 +604,7 @@ fn cut_out(o: Outline) -> HzDashed
         points: o.points,
         scratch: o.scratch,
         polylines: o.polylines,
+        held: o.held,
         kind: 1,
         fill_rule: rule_out(rule),
         refused: 0,
@@ -651,6 +660,7 @@ fn outline_in(a: HzDashed) -> Outline
         points: a.points,
         scratch: a.scratch,
         polylines: a.polylines,
+        held: a.held,
         rule: rule_in(a.fill_rule),
     }
 }

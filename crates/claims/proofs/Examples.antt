@@ -8,7 +8,7 @@ use lib.Ieee.{Float, nan, inf, binary32, isNan, add, sub, mul, div, rem, lt, le,
 use Rattle.float.specs.Arith.{f0, f1, quarter, whole}
 use Rattle.float.specs.Small.{abs, isFinite, maximum, remEuclid}
 use Rattle.float.specs.Root.{squareRoot, twiceRoot, wholeRoot}
-use Rattle.float.specs.Count.{segmentCount}
+use Rattle.float.specs.Count.{segmentCount, heldBack}
 use Rattle.vec2.specs.declared.Vec2.{Vec2}
 use Rattle.vec2.specs.Vec2.{vec, anyNan, allFinite}
 use Rattle.path.specs.declared.Segment.{Segment}
@@ -43,6 +43,12 @@ pub record Starred : Type 0 where
   pub s-1000000 : segmentCount (whole 1000000) ≡ 1000
   pub s-∞ : segmentCount (inf false) ≡ 1000
   pub s-nan : segmentCount nan ≡ 1
+  -- held back: not at N = 1,000 itself, but at the next float, and at the infinity; not below zero, and no NaN
+  pub held-1000000 : heldBack (whole 1000000) ≡ false
+  pub held-next : heldBack (ofBits binary32 0x4974_2401) ≡ true
+  pub held-∞ : heldBack (inf false) ≡ true
+  pub held-below : heldBack (inf true) ≡ false
+  pub held-nan : heldBack nan ≡ false
   pub quad-bent : quadCount quarter (at 0 0) (at 8 8) (at 16 0) ≡ 5
   pub quad-straight : quadCount quarter (at 0 0) (at 8 0) (at 16 0) ≡ 1
   pub cubic-bent : cubicCount quarter (at 0 0) (at 0 8) (at 16 8) (at 16 0) ≡ 9
@@ -57,7 +63,7 @@ pub record Starred : Type 0 where
   pub weight-0 : laid (MoveTo (vec nan nan) ∷ ConicTo (at 1 1) (at 2 0) f0 ∷ []) (0 ∷ 0 ∷ []) ≡ Move (vec nan nan) ∷ Line (at 2 0) ∷ []
 
 pub starred : Starred
-unfolding segmentCount bend anyNan allFinite straight lays lay puts laidFrom walkFrom cutFrom trace traced squareRoot twiceRoot wholeRoot isFinite maximum remEuclid abs isNan add sub mul div rem lt le eq neg sum round size units odd span climb ofInt ofBits ofFields trailingZeros
+unfolding segmentCount heldBack bend anyNan allFinite straight lays lay puts laidFrom walkFrom cutFrom trace traced squareRoot twiceRoot wholeRoot isFinite maximum remEuclid abs isNan add sub mul div rem lt le eq neg sum round size units odd span climb ofInt ofBits ofFields trailingZeros
 starred =
     record {
       s-1 = refl;
@@ -67,6 +73,11 @@ starred =
       s-1000000 = refl;
       s-∞ = refl;
       s-nan = refl;
+      held-1000000 = refl;
+      held-next = refl;
+      held-∞ = refl;
+      held-below = refl;
+      held-nan = refl;
       quad-bent = refl;
       quad-straight = refl;
       cubic-bent = refl;

@@ -16,7 +16,7 @@ use Rattle.builder.specs.declared.Call.{Call}
 use Rattle.builder.specs.Build.{Built, over, run}
 use Rattle.builder.specs.Laid.{laidBy, pathVerbs, pathFloats}
 use Rattle.flatten.specs.Flatten as flat
-use Rattle.flatten.specs.Kept.{carried, Kept}
+use Rattle.flatten.specs.Kept.{carriedCounted, Kept}
 use Rattle.dash.specs.declared.Outline.{Outline}
 use Rattle.dash.specs.Dash as dash
 use Rattle.dash.specs.Runs.{CutIntoRuns}
@@ -44,12 +44,12 @@ Flattens =
     f .answer .refused ≡ 0 →
     Kept tolerance (laidBy cs bs fs) (f .answer) (pointsIn (take (2 * f .answer .points) (f .floats))) (take (f .answer .polylines) (f .ends))
 
--- The N that a curve of the laid list is written with is what `carried_count` answers at its verb.
+-- The N that a curve of the laid list is written with, and whether it was held back, are what `carried_count` answers at its verb.
 abbrev pub Carries : Type 0
 Carries =
     (cs : List Call) (bs : List ℕ) (fs : List Float) (tolerance : Float) (pre : List Segment) (s : Segment) (post : List Segment) →
     laidBy cs bs fs ≡ pre ++ s ∷ post → isCurve s ≡ true →
-    flat.carriedCount (pathVerbs (built cs bs fs)) (pathFloats (built cs bs fs)) tolerance (length pre) ≡ flat.carriedBy 0 (carried tolerance pre s)
+    flat.carriedCount (pathVerbs (built cs bs fs)) (pathFloats (built cs bs fs)) tolerance (length pre) ≡ flat.carriedBy 0 (carriedCounted tolerance pre s)
 
 -- what dashing that path answers, and leaves
 abbrev pub dashing : List Call → List ℕ → List Float → FillRule → List Float → Float → Float → List Float → List ℕ → List ℕ → List Float → dash.Outcome

@@ -20,7 +20,7 @@ use Rattle.float.specs.Arith.{times, f0}
 use Rattle.float.proofs.Signs as count
 use Rattle.float.proofs.Patterns.{value-of}
 use Rattle.float.proofs.Squares.{le-of-square-le}
-use Rattle.float.proofs.Held.{magnitude-lt}
+use Rattle.float.proofs.Clamped.{magnitude-lt}
 use Rattle.float.proofs.Count.{above-pos, below-top}
 use Rattle.conic.specs.Conic.{thousandth, within}
 use Rattle.conic.specs.Lay.{lowest, highest, moderate}

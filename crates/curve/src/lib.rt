@@ -1,6 +1,8 @@
 // How many lines a curve becomes, by Wang's formula, and the points of a curve: flatten.rs.
 ghost use mathlib.Core.Path.{_≡_};
-ghost use Rattle.curve.specs.Count.{bend, second, slack, quadCount, cubicCount, evalQuad, evalCubic, scaledTolerance};
+ghost use Rattle.curve.specs.Count.{bend, second, slack, quadS, cubicS, evalQuad, evalCubic, scaledTolerance};
+ghost use Rattle.float.specs.Count.{segmentCounted};
+use float::SegmentCount;
 use vec2::Vec2;
 
 // In device pixels.
@@ -32,20 +34,34 @@ fn slack_of(tolerance: f32) -> f32
     4.0 * float::max(tolerance, 1.17549435e-38)
 }
 
-pub fn quad_segment_count(p0: Vec2, p1: Vec2, p2: Vec2, tolerance: f32) -> u32
-    ensures { λ r. ⌜ r ≡ quadCount tolerance p0 p1 p2 ⌝ }
+// s of a quad: the square of the number of lines that Wang's bound asks for.
+fn quad_s(p0: Vec2, p1: Vec2, p2: Vec2, tolerance: f32) -> f32
+    ensures { λ r. ⌜ r ≡ quadS tolerance p0 p1 p2 ⌝ }
 {
     let m = second_difference_magnitude(second_difference(p0, p1, p2));
-    float::segment_count(m / slack_of(tolerance))
+    m / slack_of(tolerance)
 }
 
-pub fn cubic_segment_count(p0: Vec2, p1: Vec2, p2: Vec2, p3: Vec2, tolerance: f32) -> u32
-    ensures { λ r. ⌜ r ≡ cubicCount tolerance p0 p1 p2 p3 ⌝ }
+// The same for a cubic.
+fn cubic_s(p0: Vec2, p1: Vec2, p2: Vec2, p3: Vec2, tolerance: f32) -> f32
+    ensures { λ r. ⌜ r ≡ cubicS tolerance p0 p1 p2 p3 ⌝ }
 {
     let d0 = second_difference_magnitude(second_difference(p0, p1, p2));
     let d1 = second_difference_magnitude(second_difference(p1, p2, p3));
     let m = float::max(d0, d1);
-    float::segment_count(3.0 * m / slack_of(tolerance))
+    3.0 * m / slack_of(tolerance)
+}
+
+pub fn quad_segment_count(p0: Vec2, p1: Vec2, p2: Vec2, tolerance: f32) -> SegmentCount
+    ensures { λ r. ⌜ r ≡ segmentCounted (quadS tolerance p0 p1 p2) ⌝ }
+{
+    float::segment_count(quad_s(p0, p1, p2, tolerance))
+}
+
+pub fn cubic_segment_count(p0: Vec2, p1: Vec2, p2: Vec2, p3: Vec2, tolerance: f32) -> SegmentCount
+    ensures { λ r. ⌜ r ≡ segmentCounted (cubicS tolerance p0 p1 p2 p3) ⌝ }
+{
+    float::segment_count(cubic_s(p0, p1, p2, p3, tolerance))
 }
 
 // The tolerance in curve space, from the transform's largest scale factor.

@@ -17,7 +17,7 @@ use Rattle.path.specs.declared.Segment.{Segment}
 use Rattle.path.specs.declared.FillRule.{FillRule}
 use Rattle.path.specs.Segment.{segments, bytesOf, allPoints}
 use Rattle.path.proofs.Encoded.{length-bytes}
-use Rattle.flatten.specs.Flatten.{pointsOut, endsOut}
+use Rattle.flatten.specs.Flatten.{pointsOut, endsOut, told}
 use Rattle.flatten.specs.Polylines.{polylines}
 use Rattle.pattern.specs.Cycle.{cycleOf, period, cuts}
 use Rattle.walk.specs.Phase.{startOf}
@@ -38,11 +38,15 @@ module _ (path : List Segment) (intervals : List Float) (phase tolerance : Float
   abbrev ss : List Segment
   ss = dashes intervals phase ps es
 
+  -- what is said of them
+  abbrev said : Outline
+  said = outlineFor ss (told tolerance path) rule
+
   -- what is left once the scratch takes the polylines, by whether the dash buffers take the dashes
   abbrev left : Bool → Outcome
-  left b = keeping (sets scratch 0 (flat ps)) (sets ends 0 es) (outIf b ss (length ps) (length es) rule vs fs)
+  left b = keeping (sets scratch 0 (flat ps)) (sets ends 0 es) (outIf b ss said vs fs)
 
-  laid : scratchFits ps es scratch ends ≡ true → outFits ss vs fs ≡ true → outlineFor ss (length ps) (length es) rule ≡ o → CutIntoRuns path intervals phase tolerance rule o (left true)
+  laid : scratchFits ps es scratch ends ≡ true → outFits ss vs fs ≡ true → said ≡ o → CutIntoRuns path intervals phase tolerance rule o (left true)
   laid f g q =
       let a = both (leb (length ps) (length scratch / 2)) (leb (length es) (length ends)) f in
       let y : length ps ≤ length scratch / 2 = leb-true _ _ (a .0) in
@@ -60,6 +64,7 @@ module _ (path : List Segment) (intervals : List Float) (phase tolerance : Float
         kept = kept;
         ended = ended;
         runs = rw (kept, ended) (all-runs (cycleOf intervals) (startOf (cycleOf intervals) phase (period intervals)) (polylines 0 ps es));
+        held = sym (ap (λ (z : Outline). z .held) q);
         same-rule = sym (ap (λ (z : Outline). z .rule) q);
       }
 
@@ -75,11 +80,11 @@ module _ (path : List Segment) (intervals : List Float) (phase tolerance : Float
   out true f g h = laid f g (Option·some-injective _ o h)
   out false f g h = not-cut h
 
-  kept : (b : Bool) → scratchFits ps es scratch ends ≡ b → Cuts (keptIf b ps es ss rule scratch ends vs fs)
+  kept : (b : Bool) → scratchFits ps es scratch ends ≡ b → Cuts (keptIf b ps es ss said scratch ends vs fs)
   kept true f h = out (outFits ss vs fs) f refl h
   kept false f h = not-cut h
 
-  answers : (n : ℕ) (c : Bool) → Cuts (answered n c (keptIf (scratchFits ps es scratch ends) ps es ss rule scratch ends vs fs) scratch ends vs fs)
+  answers : (n : ℕ) (c : Bool) → Cuts (answered n c (keptIf (scratchFits ps es scratch ends) ps es ss said scratch ends vs fs) scratch ends vs fs)
   answers (suc n) c h = not-cut h
   answers zero false h = not-cut h
   answers zero true h = kept (scratchFits ps es scratch ends) refl h

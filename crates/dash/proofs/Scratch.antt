@@ -17,7 +17,7 @@ use Rattle.path.specs.Segment.{segments}
 use Rattle.path.specs.Check.{badPath}
 use Rattle.flatten.specs.declared.Spot.{Spot}
 use Rattle.flatten.specs.declared.Flattened.{Flattened}
-use Rattle.flatten.specs.Flatten.{nowhere, after, stops, onlyIf, writes, written, endings, pointsOut, endsOut, flatRefusal, replied, flatten, Outcome, outcome}
+use Rattle.flatten.specs.Flatten.{nowhere, after, stops, onlyIf, writes, written, endings, pointsOut, endsOut, told, flatRefusal, replied, flatten, Outcome, outcome}
 use Rattle.pattern.proofs.Cycles.{take-stored}
 use Rattle.vec2.proofs.Points.{length-flat}
 use Rattle.dash.proofs.Caps.{both}
@@ -92,6 +92,7 @@ module _ (vs : List ℕ) (fs : List Float) (tol : Float) (scratch : List Float) 
 
   -- or it keeps the polylines
   pub record Kept (r : Flattened) (s' : List Float) (e' : List ℕ) : Type 0 where
+    pub answer : r ≡ told tol path
     pub fit : scratchFits ps es scratch ends ≡ true
     pub scratch-is : s' ≡ sets scratch 0 (flat ps)
     pub ends-are : e' ≡ sets ends 0 es
@@ -121,6 +122,7 @@ module _ (vs : List ℕ) (fs : List Float) (tol : Float) (scratch : List Float) 
             let s : s' ≡ sets scratch 0 (flat ps) = ap (λ (o : Outcome). o .floats) z in
             let t : e' ≡ sets ends 0 es = ap (λ (o : Outcome). o .ends) z in
             record {
+              answer = ap (λ (o : Outcome). o .answer) z;
               fit = q;
               scratch-is = s;
               ends-are = t;

@@ -13,15 +13,17 @@ pub record Answer : Type 0 where
   pub whole : Bool
   -- what is cut: how much of the dash buffers and the scratch is filled, and the fill rule
   pub cut : Option Outline
+  -- W2: how many of the path's curves were held back; 0 for Whole, and beside a refusal
+  pub held : ℕ
 
 abbrev pub refusedBy : ℕ → Answer
-refusedBy n = record { number = n; whole = false; cut = none }
+refusedBy n = record { number = n; whole = false; cut = none; held = 0 }
 
 abbrev pub drawnWhole : Answer
-drawnWhole = record { number = 0; whole = true; cut = none }
+drawnWhole = record { number = 0; whole = true; cut = none; held = 0 }
 
 abbrev pub cutInto : Outline → Answer
-cutInto o = record { number = 0; whole = false; cut = some o }
+cutInto o = record { number = 0; whole = false; cut = some o; held = o .held }
 
 abbrev pub answerOf : Dashed → Answer
 answerOf Whole = drawnWhole

@@ -11,7 +11,7 @@ use Rattle.vec2.specs.Points.{flat, pointsIn}
 use Rattle.path.specs.declared.Segment.{Segment}
 use Rattle.path.specs.declared.FillRule.{FillRule}
 use Rattle.path.specs.Segment.{bytesOf, allPoints}
-use Rattle.flatten.specs.Flatten.{pointsOut, endsOut}
+use Rattle.flatten.specs.Flatten.{pointsOut, endsOut, heldCurves}
 use Rattle.flatten.specs.Polylines.{polylines}
 use Rattle.pattern.specs.Cycle.{cycleOf, period}
 use Rattle.walk.specs.Phase.{startOf}
@@ -35,4 +35,6 @@ pub record CutIntoRuns (path : List Segment) (intervals : List Float) (phase tol
   pub kept : pointsIn (take (2 * o .scratch) (b .scratch)) ≡ pointsOut tolerance path
   pub ended : take (o .polylines) (b .ends) ≡ endsOut tolerance path
   pub runs : AllRuns (walkOf intervals phase) (polylines 0 (pointsIn (take (2 * o .scratch) (b .scratch))) (take (o .polylines) (b .ends))) segments
+  -- and says how many of its curves were held back
+  pub held : o .held ≡ heldCurves tolerance path
   pub same-rule : o .rule ≡ rule

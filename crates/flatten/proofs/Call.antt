@@ -125,6 +125,7 @@ module _ (vs : List ℕ) (fs : List Float) (tol : Float) (out : List Float) (es 
                 lines = t .lines;
                 counts = t .counts;
                 closings = t .closings;
+                held = t .held;
                 refused = 0;
               }) o p
               ≡ flatten vs fs tol out es

@@ -1,22 +1,23 @@
 -- The count of one verb: its loop, its ways out, and that it is the N that the curve is written with (`asked`). Assumes nothing.
 use mathlib.Core.Path.{_≡_, refl, _∙_}
-use mathlib.Core.Bool.{true}
+use mathlib.Core.Bool.{true, false}
 use mathlib.Core.List.{List, [], _∷_, _++_}
 use Prim.Native.Nat.{ℕ, zero, suc, _+_, _-_, _≤_, _<_}
 use native.Mathlib.Numerals.{add-one}
 use native.Mathlib.Omega.{arith}
 use lib.ListN.{length, getD, drop-of-length-le}
 use lib.Ieee.{Float}
+use Rattle.float.specs.declared.SegmentCount.{SegmentCount}
 use Rattle.flatten.specs.declared.Spot.{Spot}
 use Rattle.path.specs.declared.Segment.{Segment}
 use Rattle.path.specs.Segment.{isCurve, used, segAt, segments}
 use Rattle.path.specs.Check.{badPath}
 use Rattle.path.proofs.Steps.{left, next-left}
-use Rattle.flatten.specs.Flatten.{nowhere, after, spot, curveCount, countAt, carriedCount}
-use Rattle.flatten.specs.Kept.{carried}
+use Rattle.flatten.specs.Flatten.{nowhere, after, spot, noCount, curveCounted, countAt, carriedCount}
+use Rattle.flatten.specs.Kept.{carriedCounted}
 
 -- a turn: one segment more is passed
-pub count-turn : (vs : List ℕ) (fs : List Float) (i k j : ℕ) (tol : Float) (w : Spot) (all : ℕ) → i < length vs → i < j →
+pub count-turn : (vs : List ℕ) (fs : List Float) (i k j : ℕ) (tol : Float) (w : Spot) (all : SegmentCount) → i < length vs → i < j →
     countAt tol w (left vs fs i k) (j - i) ≡ all →
     (s : Segment) → s ≡ segAt (getD vs i 0) fs k → (v : Spot) → v ≡ after w s → (u : ℕ) → u ≡ used (getD vs i 0) →
     countAt tol v (left vs fs (i + 1) (k + u)) (j - (i + 1)) ≡ all
@@ -26,40 +27,40 @@ count-turn vs fs i k j tol w all h g e s es v ev u eu =
     rw (ev, es, eu, add-one i) (rw (next-left vs fs i k h, d) at e)
 
 -- the segment itself
-pub count-here : (vs : List ℕ) (fs : List Float) (i k j : ℕ) (tol : Float) (w : Spot) (all : ℕ) → i < length vs → i ≡ j →
+pub count-here : (vs : List ℕ) (fs : List Float) (i k j : ℕ) (tol : Float) (w : Spot) (all : SegmentCount) → i < length vs → i ≡ j →
     countAt tol w (left vs fs i k) (j - i) ≡ all →
-    (s : Segment) → s ≡ segAt (getD vs i 0) fs k → (n : ℕ) → n ≡ curveCount tol w s → n ≡ all
+    (s : Segment) → s ≡ segAt (getD vs i 0) fs k → (n : SegmentCount) → n ≡ curveCounted tol w s → n ≡ all
 unfolding countAt
 count-here vs fs i k j tol w all h q e s es n en =
     let d : j - i ≡ 0 = omega arith in
     rw (en, es) (rw (next-left vs fs i k h, d) at e)
 
 -- past the end
-pub count-past : (vs : List ℕ) (fs : List Float) (i k j : ℕ) (tol : Float) (w : Spot) (all : ℕ) → length vs ≤ i →
-    countAt tol w (left vs fs i k) (j - i) ≡ all → 0 ≡ all
+pub count-past : (vs : List ℕ) (fs : List Float) (i k j : ℕ) (tol : Float) (w : Spot) (all : SegmentCount) → length vs ≤ i →
+    countAt tol w (left vs fs i k) (j - i) ≡ all → (n : SegmentCount) → n ≡ noCount → n ≡ all
 unfolding countAt
-count-past vs fs i k j tol w all h e = rw (drop-of-length-le vs h) at e
+count-past vs fs i k j tol w all h e n q = q ∙ rw (drop-of-length-le vs h) at e
 
 -- ---- the ways out
 
 module _ (vs : List ℕ) (fs : List Float) (tol : Float) (j : ℕ) where
-  pub bad-path : (n : ℕ) → n ≡ badPath vs fs → (n ≡ 0 → ⊥) → record { count = 0; refused = n } ≡ carriedCount vs fs tol j
+  pub bad-path : (n : ℕ) → n ≡ badPath vs fs → (n ≡ 0 → ⊥) → record { count = 0; held = false; refused = n } ≡ carriedCount vs fs tol j
   unfolding carriedCount
   bad-path zero e h = absurd (h refl)
   bad-path (suc n) e h = rw (← e)
 
-  pub good-path : (n : ℕ) → n ≡ badPath vs fs → n ≡ 0 → (c : ℕ) → c ≡ countAt tol nowhere (segments vs fs) j → record { count = c; refused = 0 } ≡ carriedCount vs fs tol j
+  pub good-path : (n : ℕ) → n ≡ badPath vs fs → n ≡ 0 → (c : SegmentCount) → c ≡ countAt tol nowhere (segments vs fs) j → record { count = c .count; held = c .held; refused = 0 } ≡ carriedCount vs fs tol j
   unfolding carriedCount
   good-path n e z c h = rw (h, ← e, z)
 
 -- ---- the N that is asked for is the carried count
 
 count-behind : (tol : Float) (pre : List Segment) (s : Segment) (post : List Segment) (w : Spot) →
-    countAt tol w (pre ++ s ∷ post) (length pre) ≡ curveCount tol (spot w pre) s
+    countAt tol w (pre ++ s ∷ post) (length pre) ≡ curveCounted tol (spot w pre) s
 unfolding countAt spot
 count-behind tol [] s post w = refl
 count-behind tol (x ∷ pre) s post w = count-behind tol pre s post (after w x)
 
 pub asked : (tol : Float) (pre : List Segment) (s : Segment) (post : List Segment) → isCurve s ≡ true →
-    countAt tol nowhere (pre ++ s ∷ post) (length pre) ≡ carried tol pre s
+    countAt tol nowhere (pre ++ s ∷ post) (length pre) ≡ carriedCounted tol pre s
 asked tol pre s post h = count-behind tol pre s post nowhere ∙ rw h

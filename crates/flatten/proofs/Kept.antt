@@ -34,6 +34,7 @@ kept tol ss =
       lines = refl;
       counts = refl;
       closings = refl;
+      held = refl;
       sum = sum tol ss;
       points = refl;
       polys = refl;

@@ -14,7 +14,9 @@ use Rattle.path.specs.declared.Segment.{Segment}
 use Rattle.path.specs.declared.Segment.the-variants.{Move, Line, Quad, Cubic, Close}
 use Rattle.path.specs.Segment.{isDrawn, isMove, isLine, isCurve, isClose, segments}
 use Rattle.path.specs.Check.{badPath}
-use Rattle.curve.specs.Count.{quadCount, cubicCount, evalQuad, evalCubic, param}
+use Rattle.float.specs.declared.SegmentCount.{SegmentCount}
+use Rattle.float.specs.Count.{heldBack}
+use Rattle.curve.specs.Count.{quadS, cubicS, quadCount, cubicCount, evalQuad, evalCubic, param}
 use Rattle.flatten.specs.declared.Spot.{Spot}
 use Rattle.flatten.specs.declared.Flattened.{Flattened}
 use Rattle.flatten.specs.declared.Carried.{Carried}
@@ -61,6 +63,14 @@ places tol w (Line p) = 1
 places tol w (Quad c p) = quadCount tol (w .pen) c p
 places tol w (Cubic c d p) = cubicCount tol (w .pen) c d p
 places tol w Close = 0
+
+-- whether a curve's count was held back; nothing else is
+unfoldable pub isHeld : Float → Spot → Segment → Bool
+isHeld tol w (Move p) = false
+isHeld tol w (Line p) = false
+isHeld tol w (Quad c p) = heldBack (quadS tol (w .pen) c p)
+isHeld tol w (Cubic c d p) = heldBack (cubicS tol (w .pen) c d p)
+isHeld tol w Close = false
 
 -- f i, f (i + 1), ..: k of them
 abbrev pub steps : (ℕ → Vec2) → ℕ → ℕ → List Vec2
@@ -143,6 +153,10 @@ counts tol ss = total (curveCount tol) nowhere ss
 unfoldable pub addedClosings : List Segment → ℕ
 addedClosings ss = total (λ w s. one (adds w s)) nowhere ss
 
+-- held: the curves whose count was held back
+unfoldable pub heldCurves : Float → List Segment → ℕ
+heldCurves tol ss = total (λ w s. one (isHeld tol w s)) nowhere ss
+
 abbrev pub told : Float → List Segment → Flattened
 told tol ss =
     record {
@@ -152,6 +166,7 @@ told tol ss =
       lines = lines ss;
       counts = counts tol ss;
       closings = addedClosings ss;
+      held = heldCurves tol ss;
       refused = 0;
     }
 
@@ -175,7 +190,7 @@ abbrev pub outcome : Flattened → List Float → List ℕ → Outcome
 outcome a fs es = record { answer = a; floats = fs; ends = es }
 
 abbrev pub refusedBy : ℕ → Flattened
-refusedBy n = record { points = 0; polylines = 0; starts = 0; lines = 0; counts = 0; closings = 0; refused = n }
+refusedBy n = record { points = 0; polylines = 0; starts = 0; lines = 0; counts = 0; closings = 0; held = 0; refused = n }
 
 -- by the refusal's number
 abbrev pub replied : ℕ → Float → List Segment → List Float → List ℕ → Outcome
@@ -187,15 +202,22 @@ flatten vs fs tol out es = replied (flatRefusal vs fs tol out es) tol (segments 
 
 -- ---- a carried count
 
--- the N of the segment at j: 0 where that is no curve, or past the end
-unfoldable pub countAt : Float → Spot → List Segment → ℕ → ℕ
-countAt tol w [] j = 0
-countAt tol w (s ∷ ss) zero = curveCount tol w s
+-- a curve's count; none of what is no curve
+abbrev pub noCount : SegmentCount
+noCount = record { count = 0; held = false }
+
+abbrev pub curveCounted : Float → Spot → Segment → SegmentCount
+curveCounted tol w s = record { count = curveCount tol w s; held = isHeld tol w s }
+
+-- that of the segment at j: none past the end
+unfoldable pub countAt : Float → Spot → List Segment → ℕ → SegmentCount
+countAt tol w [] j = noCount
+countAt tol w (s ∷ ss) zero = curveCounted tol w s
 countAt tol w (s ∷ ss) (suc j) = countAt tol (after w s) ss j
 
-abbrev pub carriedBy : ℕ → ℕ → Carried
-carriedBy zero c = record { count = c; refused = 0 }
-carriedBy (suc n) c = record { count = 0; refused = suc n }
+abbrev pub carriedBy : ℕ → SegmentCount → Carried
+carriedBy zero c = record { count = c .count; held = c .held; refused = 0 }
+carriedBy (suc n) c = record { count = 0; held = false; refused = suc n }
 
 unfoldable pub carriedCount : List ℕ → List Float → Float → ℕ → Carried
 carriedCount vs fs tol j = carriedBy (badPath vs fs) (countAt tol nowhere (segments vs fs) j)

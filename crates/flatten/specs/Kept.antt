@@ -10,11 +10,12 @@ use Rattle.vec2.specs.Vec2.{origin}
 use Rattle.path.specs.declared.Segment.{Segment}
 use Rattle.path.specs.declared.Segment.the-variants.{Move, Line, Quad, Cubic, Close}
 use Rattle.path.specs.Segment.{isDrawn, isCurve, endOf}
+use Rattle.float.specs.declared.SegmentCount.{SegmentCount}
 use Rattle.float.specs.Count.{Counted}
 use Rattle.curve.specs.Count.{quadS, cubicS}
 use Rattle.flatten.specs.declared.Spot.{Spot}
 use Rattle.flatten.specs.declared.Flattened.{Flattened}
-use Rattle.flatten.specs.Flatten.{nowhere, spot, places, opens, onlyIf, written, pointsOut, endsOut, keptStarts, lines, counts, addedClosings, countAt}
+use Rattle.flatten.specs.Flatten.{nowhere, spot, places, opens, onlyIf, written, pointsOut, endsOut, keptStarts, lines, counts, addedClosings, isHeld, heldCurves, countAt}
 
 -- ---- N
 
@@ -35,6 +36,10 @@ before tol pre s = written tol nowhere pre ++ onlyIf (opens (spot nowhere pre) s
 abbrev pub carried : Float → List Segment → Segment → ℕ
 carried tol pre s = places tol (spot nowhere pre) s
 
+-- with whether it was held back
+abbrev pub carriedCounted : Float → List Segment → Segment → SegmentCount
+carriedCounted tol pre s = record { count = carried tol pre s; held = isHeld tol (spot nowhere pre) s }
+
 pub record Stands (tol : Float) (pre : List Segment) (s : Segment) (pts : List Vec2) : Type 0 where
   -- the place of the point written last before s
   pub last : ℕ
@@ -50,9 +55,9 @@ pub record Stands (tol : Float) (pre : List Segment) (s : Segment) (pts : List V
 pub record Kept (tol : Float) (ss : List Segment) (t : Flattened) (pts : List Vec2) (ends : List ℕ) : Type 0 where
   -- every line and curve stands
   pub stand : (pre : List Segment) (s : Segment) (post : List Segment) → ss ≡ pre ++ s ∷ post → isDrawn s ≡ true → Stands tol pre s pts
-  -- the N that is asked for at a curve's verb is the one that it is written with
+  -- the N that is asked for at a curve's verb is the one that it is written with, and whether it was held back is said with it
   pub asked : (pre : List Segment) (s : Segment) (post : List Segment) → ss ≡ pre ++ s ∷ post → isCurve s ≡ true →
-      countAt tol nowhere ss (length pre) ≡ carried tol pre s
+      countAt tol nowhere ss (length pre) ≡ carriedCounted tol pre s
   -- in order: a later one begins no earlier than an earlier one ends
   pub order : (pre : List Segment) (s : Segment) (mid : List Segment) (u : Segment) (post : List Segment) → ss ≡ pre ++ s ∷ (mid ++ u ∷ post) →
       isDrawn s ≡ true → isDrawn u ≡ true → length (before tol pre s) + carried tol pre s ≤ length (before tol (pre ++ s ∷ mid) u)
@@ -63,6 +68,7 @@ pub record Kept (tol : Float) (ss : List Segment) (t : Flattened) (pts : List Ve
   pub lines : t .lines ≡ lines ss
   pub counts : t .counts ≡ counts tol ss
   pub closings : t .closings ≡ addedClosings ss
+  pub held : t .held ≡ heldCurves tol ss
   pub sum : t .points ≡ t .starts + t .lines + t .counts + t .closings
   -- points and polylines are those of Flatten, nothing else
   pub points : pts ≡ pointsOut tol ss

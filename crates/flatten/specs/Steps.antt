@@ -1,7 +1,7 @@
 -- What the inner functions promise: the measuring pass, and points and ends stored one behind the other. Definitions only.
 use mathlib.Core.Path.{_≡_}
 use Prim.Native.Nat.{ℕ, _+_, _*_, _≤_}
-use mathlib.Core.Bool.{not}
+use mathlib.Core.Bool.{Bool, not}
 use mathlib.Core.List.{List, [], _∷_, _++_}
 use lib.ListN.{length}
 use lib.Seq.{sets}
@@ -14,12 +14,12 @@ use Rattle.curve.specs.Count.{quadCount, cubicCount, evalQuad, evalCubic}
 use Rattle.flatten.specs.declared.Spot.{Spot}
 use Rattle.flatten.specs.declared.Tally.{Tally}
 use Rattle.flatten.specs.declared.Gauge.{Gauge}
-use Rattle.flatten.specs.Flatten.{drawnTo, closes, closed, after, one, opens, adds, onlyIf, curved, curveCount}
+use Rattle.flatten.specs.Flatten.{drawnTo, closes, closed, after, one, opens, adds, onlyIf, curved, curveCount, isHeld}
 
 -- ---- the measuring pass
 
 abbrev pub none : Tally
-none = record { starts = 0; lines = 0; counts = 0; closings = 0 }
+none = record { starts = 0; lines = 0; counts = 0; closings = 0; held = 0 }
 
 unfoldable pub tally : Float → Spot → Segment → Tally → Tally
 tally tol w s t =
@@ -28,20 +28,36 @@ tally tol w s t =
       lines = t .lines + one (isLine s);
       counts = t .counts + curveCount tol w s;
       closings = t .closings + one (adds w s);
+      held = t .held + one (isHeld tol w s);
     }
 
--- the totals so far, and where the flattening stands: with a drawn segment to p more, `line` of a line and n of a curve; with a close; with any segment
-abbrev pub drawnMore : Gauge → Vec2 → ℕ → ℕ → Gauge
-drawnMore g p line n =
+-- the totals so far, and where the flattening stands: with a drawn segment to p more, `line` of a line, n of a curve and whether that was held back;
+-- with a close; with any segment
+abbrev pub drawnMore : Gauge → Vec2 → ℕ → ℕ → Bool → Gauge
+drawnMore g p line n held =
     record {
-      sum = record { starts = g .sum .starts + one (not (g .spot .drawn)); lines = g .sum .lines + line; counts = g .sum .counts + n; closings = g .sum .closings };
+      sum =
+          record {
+            starts = g .sum .starts + one (not (g .spot .drawn));
+            lines = g .sum .lines + line;
+            counts = g .sum .counts + n;
+            closings = g .sum .closings;
+            held = g .sum .held + one held;
+          };
       spot = drawnTo (g .spot) p;
     }
 
 abbrev pub closedMore : Gauge → Gauge
 closedMore g =
     record {
-      sum = record { starts = g .sum .starts; lines = g .sum .lines; counts = g .sum .counts; closings = g .sum .closings + one (closes (g .spot)) };
+      sum =
+          record {
+            starts = g .sum .starts;
+            lines = g .sum .lines;
+            counts = g .sum .counts;
+            closings = g .sum .closings + one (closes (g .spot));
+            held = g .sum .held;
+          };
       spot = closed (g .spot);
     }
 
@@ -59,6 +75,7 @@ pub record Small (n : ℕ) (t : Tally) : Type 0 where
   pub lines : t .lines ≤ n
   pub counts : t .counts ≤ 1000 * n
   pub closings : t .closings ≤ n
+  pub held : t .held ≤ n
 
 -- ---- the writing pass
 

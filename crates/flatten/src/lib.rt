@@ -8,8 +8,9 @@ ghost use Rattle.vec2.specs.Points.{flat};
 ghost use Rattle.path.specs.Segment.{segments};
 ghost use Rattle.path.specs.Check.{usedBy};
 ghost use Rattle.curve.specs.Count.{evalQuad, evalCubic};
-ghost use Rattle.flatten.specs.Flatten.{nowhere, closes, movedTo, drawnTo, closed, after, stops, one, onlyIf, curveCount, curved, writes, pointsOut, endsOut, outcome, refusedBy, flatten, countAt, carriedCount};
+ghost use Rattle.flatten.specs.Flatten.{nowhere, closes, movedTo, drawnTo, closed, after, stops, one, onlyIf, curveCounted, curved, writes, pointsOut, endsOut, outcome, refusedBy, flatten, noCount, countAt, carriedCount};
 ghost use Rattle.flatten.specs.Steps.{none, drawnMore, closedMore, gauged, measured, Small, begun, quadPoints, cubicPoints, Wrote, Ended};
+use float::SegmentCount;
 use path::Cursor;
 use path::Segment;
 use path::Step;
@@ -24,13 +25,15 @@ pub struct Flattened {
     pub lines: usize,
     pub counts: usize,
     pub closings: usize,
+    pub held: usize,
     pub refused: u8,
 }
 
-// A carried count, or the refusal's number beside a 0.
+// A carried count and whether it was held back, or the refusal's number beside a 0.
 #[repr(C)]
 pub struct Carried {
     pub count: usize,
+    pub held: bool,
     pub refused: u8,
 }
 
@@ -43,12 +46,13 @@ pub struct Spot {
     pub drawn: bool,
 }
 
-// The four totals that a segment adds to.
+// The totals that a segment adds to.
 pub struct Tally {
     pub starts: usize,
     pub lines: usize,
     pub counts: usize,
     pub closings: usize,
+    pub held: usize,
 }
 
 // How far the measuring is: the totals so far, and where the flattening stands.
@@ -165,34 +169,45 @@ fn ends_polyline(w: Spot, s: Segment) -> bool
     }
 }
 
-// A curve's N, and 0 for what is no curve.
-fn curve_count(tolerance: f32, w: Spot, s: Segment) -> usize
-    ensures { λ r. ⌜ (r ≡ curveCount tolerance w s) × (r ≤ 1000) ⌝ }
+fn no_count() -> SegmentCount
+    ensures { λ r. ⌜ r ≡ noCount ⌝ }
 {
-    let pen = w.pen;
-    match s {
-        Segment::Move(_) => 0,
-        Segment::Line(_) => 0,
-        Segment::Quad(c, p) => curve::quad_segment_count(pen, c, p, tolerance) as usize,
-        Segment::Cubic(c, d, p) => curve::cubic_segment_count(pen, c, d, p, tolerance) as usize,
-        Segment::Close => 0,
+    SegmentCount {
+        count: 0,
+        held: false,
     }
 }
 
-// A drawn segment to p more: `line` of a line, and n of a curve.
-fn add_drawn(g: Gauge, p: Vec2, line: usize, n: usize) -> Gauge
+// A curve's N and whether it was held back; 0 for what is no curve.
+fn curve_count(tolerance: f32, w: Spot, s: Segment) -> SegmentCount
+    ensures { λ r. ⌜ r ≡ curveCounted tolerance w s ⌝ }
+{
+    let pen = w.pen;
+    match s {
+        Segment::Move(_) => no_count(),
+        Segment::Line(_) => no_count(),
+        Segment::Quad(c, p) => curve::quad_segment_count(pen, c, p, tolerance),
+        Segment::Cubic(c, d, p) => curve::cubic_segment_count(pen, c, d, p, tolerance),
+        Segment::Close => no_count(),
+    }
+}
+
+// A drawn segment to p more: `line` of a line, n of a curve, and whether that was held back.
+fn add_drawn(g: Gauge, p: Vec2, line: usize, n: usize, held: bool) -> Gauge
     requires { ⌜ Small 65536 (g .sum) × (line ≤ 1) × (n ≤ 1000) ⌝ }
-    ensures { λ r. ⌜ r ≡ drawnMore g p line n ⌝ }
+    ensures { λ r. ⌜ r ≡ drawnMore g p line n held ⌝ }
 {
     let t = g.sum;
     let w = g.spot;
     let a = as_one(!w.drawn);
+    let h = as_one(held);
     Gauge {
         sum: Tally {
             starts: t.starts + a,
             lines: t.lines + line,
             counts: t.counts + n,
             closings: t.closings,
+            held: t.held + h,
         },
         spot: drawn_to(w, p),
     }
@@ -213,6 +228,7 @@ fn add_close(g: Gauge) -> Gauge
             lines: t.lines,
             counts: t.counts,
             closings: t.closings + a,
+            held: t.held,
         },
         spot: close(w),
     }
@@ -230,14 +246,14 @@ fn add_segment(g: Gauge, tolerance: f32, s: Segment) -> Gauge
             sum,
             spot: move_to(p),
         },
-        Segment::Line(p) => add_drawn(g, p, 1, 0),
+        Segment::Line(p) => add_drawn(g, p, 1, 0, false),
         Segment::Quad(c, p) => {
             let n = curve::quad_segment_count(pen, c, p, tolerance);
-            add_drawn(g, p, 0, n as usize)
+            add_drawn(g, p, 0, n.count as usize, n.held)
         }
         Segment::Cubic(c, d, p) => {
             let n = curve::cubic_segment_count(pen, c, d, p, tolerance);
-            add_drawn(g, p, 0, n as usize)
+            add_drawn(g, p, 0, n.count as usize, n.held)
         }
         Segment::Close => add_close(g),
     }
@@ -254,6 +270,7 @@ fn measure(verbs: &[u8], points: &[f32], tolerance: f32) -> Tally
             lines: 0,
             counts: 0,
             closings: 0,
+            held: 0,
         },
         spot: start_of_path(),
     };
@@ -345,7 +362,7 @@ fn draw_quad(out: &mut [f32], at: usize, tolerance: f32, w: Spot, c: Vec2, p: Ve
 {
     let start = w.start;
     let pen = w.pen;
-    let n = curve::quad_segment_count(pen, c, p, tolerance);
+    let n = curve::quad_segment_count(pen, c, p, tolerance).count;
     let a = put_if(out, at, !w.drawn, start);
     write_quad(out, a, pen, c, p, n as u16);
     a + n as usize
@@ -366,7 +383,7 @@ fn draw_cubic(
 {
     let start = w.start;
     let pen = w.pen;
-    let n = curve::cubic_segment_count(pen, c, d, p, tolerance);
+    let n = curve::cubic_segment_count(pen, c, d, p, tolerance).count;
     let a = put_if(out, at, !w.drawn, start);
     write_cubic(out, a, pen, c, d, p, n as u16);
     a + n as usize
@@ -463,6 +480,7 @@ fn refusal(n: u8) -> Flattened
         lines: 0,
         counts: 0,
         closings: 0,
+        held: 0,
         refused: n,
     }
 }
@@ -500,14 +518,15 @@ pub fn flatten(
         lines: t.lines,
         counts: t.counts,
         closings: t.closings,
+        held: t.held,
         refused: 0,
     }
 }
 
 // ---- a carried count
 
-// The N of the verb at `index`: 0 where that is no curve, or past the end.
-fn count_at(verbs: &[u8], points: &[f32], tolerance: f32, index: usize) -> usize
+// The N of the verb at `index` and whether it was held back: 0 where that is no curve, or past the end.
+fn count_at(verbs: &[u8], points: &[f32], tolerance: f32, index: usize) -> SegmentCount
     requires { ⌜ 2 * usedBy (now verbs) ≤ length (now points) ⌝ }
     ensures { λ r. ⌜ r ≡ countAt tolerance nowhere (segments (now (verbs .entry)) (now (points .entry))) index ⌝ }
 {
@@ -516,7 +535,7 @@ fn count_at(verbs: &[u8], points: &[f32], tolerance: f32, index: usize) -> usize
     loop {
         let step = path::next(verbs, points, c);
         let Step::Next(s, d) = step else {
-            return 0;
+            return no_count();
         };
         let i = c.verb;
         if i == index {
@@ -527,7 +546,7 @@ fn count_at(verbs: &[u8], points: &[f32], tolerance: f32, index: usize) -> usize
     }
 }
 
-// The N that the curve at verb `index` is written with.
+// The N that the curve at verb `index` is written with, and whether it was held back.
 pub fn carried_count(verbs: &[u8], points: &[f32], tolerance: f32, index: usize) -> Carried
     ensures { λ r. ⌜ r ≡ carriedCount (now (verbs .entry)) (now (points .entry)) tolerance index ⌝ }
 {
@@ -535,12 +554,14 @@ pub fn carried_count(verbs: &[u8], points: &[f32], tolerance: f32, index: usize)
     if bad != 0 {
         return Carried {
             count: 0,
+            held: false,
             refused: bad,
         };
     }
     let n = count_at(verbs, points, tolerance, index);
     Carried {
-        count: n,
+        count: n.count as usize,
+        held: n.held,
         refused: 0,
     }
 }

@@ -35,6 +35,9 @@ f3 = ofBits binary32 0x4040_0000
 abbrev pub f4 : Float
 f4 = ofBits binary32 0x4080_0000
 
+abbrev pub f1000 : Float
+f1000 = ofBits binary32 0x447a_0000
+
 abbrev pub half : Float
 half = ofBits binary32 0x3f00_0000
 

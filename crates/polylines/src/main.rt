@@ -147,7 +147,14 @@ fn odd_counts() -> bool {
         0.25,
     );
     let far = curve::quad_segment_count(o, Vec2::new(3.0e38, 0.0), Vec2::new(0.0, 3.0e38), 0.25);
-    loose == 1000 && below == 1000 && lost == 1 && half == 9 && far == curve::MAX_SEGMENTS
+    let counted = loose.count == 1000 && below.count == 1000 && lost.count == 1;
+    let held = loose.held && below.held && far.held;
+    counted
+        && half.count == 9
+        && far.count == curve::MAX_SEGMENTS
+        && held
+        && !lost.held
+        && !half.held
 }
 
 fn scales() -> bool {

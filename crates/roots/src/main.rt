@@ -61,7 +61,7 @@ fn compare(text: &[u8; 23]) -> Found {
     let count = number(text, 18, 22);
     Found {
         root: has_pattern(float::sqrt(x), root),
-        count: float::segment_count(x) == count,
+        count: float::segment_count(x).count == count,
     }
 }
 

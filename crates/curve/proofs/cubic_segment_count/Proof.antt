@@ -2,23 +2,8 @@ use borrow.Author.Needs.{needs}
 use Rattle.curve.proofs.cubic_segment_count.Statement.{statement}
 use Rattle.curve.proofs.cubic_segment_count.Tie as tie
 
-second-difference-requires : tie.Need-second-difference-requires
-second-difference-requires c κs = search needs
-
-second-difference-magnitude-requires : tie.Need-second-difference-magnitude-requires
-second-difference-magnitude-requires c κs = search needs
-
-second-difference-requires-2 : tie.Need-second-difference-requires-2
-second-difference-requires-2 c κs = search needs
-
-second-difference-magnitude-requires-2 : tie.Need-second-difference-magnitude-requires-2
-second-difference-magnitude-requires-2 c κs = search needs
-
-max-requires : tie.Need-max-requires
-max-requires c κs = search needs
-
-slack-of-requires : tie.Need-slack-of-requires
-slack-of-requires c κs = search needs
+cubic-s-requires : tie.Need-cubic-s-requires
+cubic-s-requires c κs = search needs
 
 segment-count-requires : tie.Need-segment-count-requires
 segment-count-requires c κs = search needs
@@ -27,14 +12,4 @@ returns : tie.Need-returns
 returns c = cc
 
 pub cubic-segment-count-spec : {M : Type 1} → statement M
-cubic-segment-count-spec =
-    tie.close
-    (tie.spec
-    second-difference-requires
-    second-difference-magnitude-requires
-    second-difference-requires-2
-    second-difference-magnitude-requires-2
-    max-requires
-    slack-of-requires
-    segment-count-requires
-    returns)
+cubic-segment-count-spec = tie.close (tie.spec cubic-s-requires segment-count-requires returns)

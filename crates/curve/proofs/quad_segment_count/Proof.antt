@@ -2,14 +2,8 @@ use borrow.Author.Needs.{needs}
 use Rattle.curve.proofs.quad_segment_count.Statement.{statement}
 use Rattle.curve.proofs.quad_segment_count.Tie as tie
 
-second-difference-requires : tie.Need-second-difference-requires
-second-difference-requires c κs = search needs
-
-second-difference-magnitude-requires : tie.Need-second-difference-magnitude-requires
-second-difference-magnitude-requires c κs = search needs
-
-slack-of-requires : tie.Need-slack-of-requires
-slack-of-requires c κs = search needs
+quad-s-requires : tie.Need-quad-s-requires
+quad-s-requires c κs = search needs
 
 segment-count-requires : tie.Need-segment-count-requires
 segment-count-requires c κs = search needs
@@ -18,11 +12,4 @@ returns : tie.Need-returns
 returns c = cc
 
 pub quad-segment-count-spec : {M : Type 1} → statement M
-quad-segment-count-spec =
-    tie.close
-    (tie.spec
-    second-difference-requires
-    second-difference-magnitude-requires
-    slack-of-requires
-    segment-count-requires
-    returns)
+quad-segment-count-spec = tie.close (tie.spec quad-s-requires segment-count-requires returns)

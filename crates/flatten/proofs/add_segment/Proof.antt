@@ -27,7 +27,7 @@ cast-add-drawn : tie.Need-cast-add-drawn
 cast-add-drawn c = search needs
 
 add-drawn-requires-2 : tie.Need-add-drawn-requires-2
-add-drawn-requires-2 c κs = (search needs, omega arith, rw (c .quad-segment-count .ensures) (counted _ _ .most))
+add-drawn-requires-2 c κs = (search needs, omega arith, rw (c .before .quad-segment-count .ensures) (counted _ _ .most))
 
 enum-known-s-4 : tie.Need-enum-known-s-4
 enum-known-s-4 c = search needs
@@ -39,7 +39,7 @@ cast-add-drawn-2 : tie.Need-cast-add-drawn-2
 cast-add-drawn-2 c = search needs
 
 add-drawn-requires-3 : tie.Need-add-drawn-requires-3
-add-drawn-requires-3 c κs = (search needs, omega arith, rw (c .cubic-segment-count .ensures) (counted _ _ .most))
+add-drawn-requires-3 c κs = (search needs, omega arith, rw (c .before .cubic-segment-count .ensures) (counted _ _ .most))
 
 enum-told : tie.Need-enum-told
 enum-told c = search needs
@@ -54,10 +54,10 @@ returns-2 : tie.Need-returns-2
 returns-2 c = more-line _ _ _ _ (c .before .before .s2 .given .1) _ (c .add-drawn .ensures)
 
 returns-3 : tie.Need-returns-3
-returns-3 c = more-quad _ _ _ _ _ (c .before .before .before .s3 .given .1) _ (c .before .quad-segment-count .ensures) _ (c .add-drawn2 .ensures)
+returns-3 c = more-quad _ _ _ _ _ (c .before .before .before .before .s3 .given .1) _ (c .before .before .quad-segment-count .ensures) _ (c .add-drawn2 .ensures)
 
 returns-4 : tie.Need-returns-4
-returns-4 c = more-cubic _ _ _ _ _ _ (c .before .before .before .s4 .given .1) _ (c .before .cubic-segment-count .ensures) _ (c .add-drawn3 .ensures)
+returns-4 c = more-cubic _ _ _ _ _ _ (c .before .before .before .before .s4 .given .1) _ (c .before .before .cubic-segment-count .ensures) _ (c .add-drawn3 .ensures)
 
 returns-5 : tie.Need-returns-5
 returns-5 c = more-close _ _ _ (c .before .enum-told .given .1) _ (c .add-close .ensures)

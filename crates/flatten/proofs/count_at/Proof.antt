@@ -43,11 +43,14 @@ enum-known-step c = search needs
 enum-told : tie.Need-enum-told Inv-loop μ-loop
 enum-told c = search needs
 
+no-count-requires : tie.Need-no-count-requires Inv-loop μ-loop
+no-count-requires c κs = search needs
+
 returns : tie.Need-returns Inv-loop μ-loop
 returns c =
-    let l = c .before .before .before .loop in
-    let a = c .before .before .before .before .before .before .before .args in
-    count-past (a .verbs .now) (a .points .now) (l .c .verb) (l .c .point) _ _ (l .w) _ (over c) (l .inv .2)
+    let l = c .before .before .before .before .loop in
+    let a = c .before .before .before .before .before .before .before .before .args in
+    count-past (a .verbs .now) (a .points .now) (l .c .verb) (l .c .point) _ _ (l .w) _ (over (c .before)) (l .inv .2) _ (c .no-count .ensures)
 
 curve-count-requires : tie.Need-curve-count-requires Inv-loop μ-loop
 curve-count-requires c κs = search needs
@@ -56,7 +59,7 @@ returns-2 : tie.Need-returns-2 Inv-loop μ-loop
 returns-2 c =
     let l = c .before .before .before .before .before .before .loop in
     let g = here (c .before .before) in
-    count-here _ _ (l .c .verb) (l .c .point) _ _ (l .w) _ (g .inside) (c .before .if1 .taken) (l .inv .2) _ (g .segment) _ (c .curve-count .ensures .0)
+    count-here _ _ (l .c .verb) (l .c .point) _ _ (l .w) _ (g .inside) (c .before .if1 .taken) (l .inv .2) _ (g .segment) _ (c .curve-count .ensures)
 
 advance-requires : tie.Need-advance-requires Inv-loop μ-loop
 advance-requires c κs = search needs
@@ -87,6 +90,7 @@ count-at-spec =
     next-requires
     enum-known-step
     enum-told
+    no-count-requires
     returns
     curve-count-requires
     returns-2

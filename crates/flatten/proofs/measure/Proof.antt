@@ -33,7 +33,7 @@ start-of-path-requires : tie.Need-start-of-path-requires Inv-loop μ-loop
 start-of-path-requires c κs = search needs
 
 loop-holds : tie.Need-loop-holds Inv-loop μ-loop
-loop-holds c = (omega arith, simp zero-add (omega arith), record { starts = omega arith; lines = omega arith; counts = omega arith; closings = omega arith }, rw (c .start-of-path .ensures))
+loop-holds c = (omega arith, simp zero-add (omega arith), record { starts = omega arith; lines = omega arith; counts = omega arith; closings = omega arith; held = omega arith }, rw (c .start-of-path .ensures))
 
 next-requires : tie.Need-next-requires Inv-loop μ-loop
 next-requires c κs = search needs
@@ -50,11 +50,11 @@ returns c =
     let a = c .before .before .before .before .before .before .before .before .args in
     let h = l .inv .2 in (
       sym (measured-none (a .verbs .now) (a .points .now) (l .c .verb) (l .c .point) _ (l .g .sum) (l .g .spot) (over (c .before))) ∙ l .inv .3,
-      record { starts = omega arith; lines = omega arith; counts = omega arith; closings = omega arith },
+      record { starts = omega arith; lines = omega arith; counts = omega arith; closings = omega arith; held = omega arith },
     )
 
 add-segment-requires : tie.Need-add-segment-requires Inv-loop μ-loop
-add-segment-requires c κs = let h = c .before .before .before .before .loop .inv .2 in record { starts = omega arith; lines = omega arith; counts = omega arith; closings = omega arith }
+add-segment-requires c κs = let h = c .before .before .before .before .loop .inv .2 in record { starts = omega arith; lines = omega arith; counts = omega arith; closings = omega arith; held = omega arith }
 
 loop-less : tie.Need-loop-less Inv-loop μ-loop
 loop-less c = let g = here (c .before) in rw (g .cursor) (omega (arith, g .inside))
