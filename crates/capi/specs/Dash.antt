@@ -17,8 +17,8 @@ use Rattle.capi.specs.declared.HzDashed.{HzDashed}
 use Rattle.capi.specs.declared.HzOutline.{HzOutline}
 use Rattle.capi.specs.Builder.{ruleIn, ruleOut, flagIn, flagOut}
 
-abbrev pub uncut : ℕ → ℕ → HzDashed
-uncut kind refused = record { verbs = 0; points = 0; scratch = 0; polylines = 0; held = 0; kind = kind; «fill_rule» = 0; refused = refused }
+abbrev pub uncut : ℕ → ℕ → ℕ → HzDashed
+uncut kind held refused = record { verbs = 0; points = 0; scratch = 0; polylines = 0; held = held; kind = kind; «fill_rule» = 0; refused = refused }
 
 abbrev pub cutOut : Outline → HzDashed
 cutOut o =
@@ -39,7 +39,7 @@ valuesOut none a = a
 valuesOut (some o) a = cutOut o
 
 abbrev pub dashedOut : Answer → HzDashed
-dashedOut a = valuesOut (a .cut) (uncut (cond (a .whole) 0 2) (a .number))
+dashedOut a = valuesOut (a .cut) (uncut (cond (a .whole) 0 2) (a .held) (a .number))
 
 -- the answer, and what the four lent buffers hold afterwards
 pub record HzDashing : Type 0 where

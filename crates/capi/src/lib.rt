@@ -2,7 +2,7 @@
 ghost use mathlib.Core.Path.{_≡_};
 ghost use lib.Ieee.{binary32};
 ghost use Rattle.float.specs.Root.{squareRoot};
-ghost use Rattle.float.specs.Count.{segmentCounted};
+ghost use Rattle.float.specs.Count.{segmentAnswer};
 ghost use Rattle.path.specs.Check.{badPath};
 ghost use Rattle.path.specs.Rect.{isEmptyRect, holds, widthOf, heightOf};
 ghost use Rattle.curve.specs.Count.{quadS, cubicS, evalQuad, evalCubic, scaledTolerance};
@@ -49,7 +49,7 @@ pub extern "C" fn hz_sqrt(x: f32) -> f32
 
 #[no_mangle]
 pub extern "C" fn hz_segment_count(squared: f32) -> SegmentCount
-    ensures { λ r. ⌜ r ≡ segmentCounted squared ⌝ }
+    ensures { λ r. ⌜ r ≡ segmentAnswer squared ⌝ }
 {
     float::segment_count(squared)
 }
@@ -63,7 +63,7 @@ pub extern "C" fn hz_quad_segment_count(
     p2: Vec2,
     tolerance: f32,
 ) -> SegmentCount
-    ensures { λ r. ⌜ r ≡ segmentCounted (quadS tolerance p0 p1 p2) ⌝ }
+    ensures { λ r. ⌜ r ≡ segmentAnswer (quadS tolerance p0 p1 p2) ⌝ }
 {
     curve::quad_segment_count(p0, p1, p2, tolerance)
 }
@@ -76,7 +76,7 @@ pub extern "C" fn hz_cubic_segment_count(
     p3: Vec2,
     tolerance: f32,
 ) -> SegmentCount
-    ensures { λ r. ⌜ r ≡ segmentCounted (cubicS tolerance p0 p1 p2 p3) ⌝ }
+    ensures { λ r. ⌜ r ≡ segmentAnswer (cubicS tolerance p0 p1 p2 p3) ⌝ }
 {
     curve::cubic_segment_count(p0, p1, p2, p3, tolerance)
 }
@@ -560,7 +560,7 @@ pub extern "C" fn hz_line_style(number: usize) -> LineStyle
 
 // ---- dashing
 
-// What a dashing answers: kind is 0 for Whole, 1 for Cut, 2 for a refusal. Counts are 0 unless cut.
+// What a dashing answers: kind is 0 for Whole, 1 for Cut, 2 for a refusal. Counts, the curves held back (W2) included, are 0 unless cut.
 #[repr(C)]
 pub struct HzDashed {
     pub verbs: usize,
@@ -581,7 +581,7 @@ pub struct HzOutline {
 }
 
 fn not_cut(kind: u8, refused: u8) -> HzDashed
-    ensures { λ r. ⌜ r ≡ uncut kind refused ⌝ }
+    ensures { λ r. ⌜ r ≡ uncut kind 0 refused ⌝ }
 {
     HzDashed {
         verbs: 0,

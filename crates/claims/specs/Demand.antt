@@ -4,7 +4,7 @@ use mathlib.Core.Path.{_≡_}
 use Prim.Native.Nat.{ℕ, _*_}
 use mathlib.Core.Bool.{true}
 use mathlib.Core.List.{List, _∷_, _++_}
-use mathlib.Core.Option.{some}
+use mathlib.Core.Option.{none, some}
 use lib.ListN.{length, take}
 use lib.Ieee.{Float}
 use Rattle.vec2.specs.Points.{pointsIn}
@@ -16,7 +16,7 @@ use Rattle.builder.specs.declared.Call.{Call}
 use Rattle.builder.specs.Build.{Built, over, run}
 use Rattle.builder.specs.Laid.{laidBy, pathVerbs, pathFloats}
 use Rattle.flatten.specs.Flatten as flat
-use Rattle.flatten.specs.Kept.{carriedCounted, Kept}
+use Rattle.flatten.specs.Kept.{carriedAnswer, Kept}
 use Rattle.dash.specs.declared.Outline.{Outline}
 use Rattle.dash.specs.Dash as dash
 use Rattle.dash.specs.Runs.{CutIntoRuns}
@@ -44,12 +44,12 @@ Flattens =
     f .answer .refused ≡ 0 →
     Kept tolerance (laidBy cs bs fs) (f .answer) (pointsIn (take (2 * f .answer .points) (f .floats))) (take (f .answer .polylines) (f .ends))
 
--- The N that a curve of the laid list is written with, and whether it was held back, are what `carried_count` answers at its verb.
+-- The N that a curve of the laid list is written with, and whether it was held back (W2), are what `carried_count` answers at its verb.
 abbrev pub Carries : Type 0
 Carries =
     (cs : List Call) (bs : List ℕ) (fs : List Float) (tolerance : Float) (pre : List Segment) (s : Segment) (post : List Segment) →
     laidBy cs bs fs ≡ pre ++ s ∷ post → isCurve s ≡ true →
-    flat.carriedCount (pathVerbs (built cs bs fs)) (pathFloats (built cs bs fs)) tolerance (length pre) ≡ flat.carriedBy 0 (carriedCounted tolerance pre s)
+    flat.carriedCount (pathVerbs (built cs bs fs)) (pathFloats (built cs bs fs)) tolerance (length pre) ≡ flat.carriedBy 0 (carriedAnswer tolerance pre s)
 
 -- what dashing that path answers, and leaves
 abbrev pub dashing : List Call → List ℕ → List Float → FillRule → List Float → Float → Float → List Float → List ℕ → List ℕ → List Float → dash.Outcome
@@ -64,8 +64,17 @@ Dashes =
     let d = dashing cs bs fs rule intervals phase tolerance scratch ends verbs points in
     d .reply .cut ≡ some o → CutIntoRuns (laidBy cs bs fs) intervals phase tolerance rule o d
 
+-- W2: where dashing does not cut that path (Whole, or refused), it says that no curve was held back.
+abbrev pub Uncut : Type 0
+Uncut =
+    (cs : List Call) (bs : List ℕ) (fs : List Float) (rule : FillRule) (intervals : List Float) (phase tolerance : Float)
+    (scratch : List Float) (ends verbs : List ℕ) (points : List Float) →
+    let d = dashing cs bs fs rule intervals phase tolerance scratch ends verbs points in
+    d .reply .cut ≡ none → d .reply .held ≡ 0
+
 pub record Demand3 : Type 0 where
   pub builds : Builds
   pub flattens : Flattens
   pub carries : Carries
   pub dashes : Dashes
+  pub uncut : Uncut

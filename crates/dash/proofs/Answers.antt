@@ -16,21 +16,16 @@ use Rattle.vec2.specs.Points.{flat, pointsIn}
 use Rattle.vec2.proofs.Points.{length-flat, pointsIn-flat}
 use Rattle.path.specs.declared.Segment.{Segment}
 use Rattle.path.specs.declared.FillRule.{FillRule}
-use Rattle.path.specs.Segment.{segments, allPoints}
+use Rattle.path.specs.Segment.{segments}
 use Rattle.path.specs.Check.{badPath}
-use Rattle.flatten.specs.declared.Flattened.{Flattened}
-use Rattle.flatten.specs.Flatten.{pointsOut, endsOut, told}
-use Rattle.flatten.specs.Polylines.{polylines}
+use Rattle.flatten.specs.Flatten.{pointsOut, endsOut, heldCurves}
 use Rattle.pattern.specs.Cycle.{some, usable, cycleOf, sumFrom, cuts}
 use Rattle.walk.specs.declared.Pos.{Pos}
 use Rattle.walk.specs.Phase.{startOf}
-use Rattle.walk.proofs.Lays.{walk-points}
 use Rattle.dash.specs.declared.Dashed.{Dashed}
 use Rattle.dash.specs.declared.Dashed.the-variants.{Whole, Cut, Refused}
-use Rattle.dash.specs.declared.Laid.{Laid}
-use Rattle.dash.specs.Answer.{Answer, refusedBy, drawnWhole, cutInto, answerOf}
-use Rattle.dash.specs.Dash.{even, thenEight, refusal, walked, dashes, scratchFits, outFits, Outcome, outcome, cutting, dashing}
-use Rattle.dash.specs.Lay.{LaidOutcome, laidOutcome, laidIf, laying}
+use Rattle.dash.specs.Answer.{Answer, refusedBy, drawnWhole, answerOf}
+use Rattle.dash.specs.Dash.{even, thenEight, refusal, walked, dashes, scratchFits, cutOutcome, outOutcome, Outcome, outcome, keeping, cutting, dashing}
 
 -- ---- the case
 
@@ -67,36 +62,16 @@ module _ (verbs : List ℕ) (points : List Float) (rule : FillRule) (intervals :
       → outcome (refusedBy 3) s' e' us gs ≡ cutting verbs points rule intervals phase tolerance scratch ends us gs
   scratch-full h s' e' p q = rw (h, p, q)
 
-  -- what is laid of the polylines that it keeps, by the totals t
-  module _ (f : scratchFits ps es scratch ends ≡ true) (s' : List Float) (e' : List ℕ) (p : s' ≡ sets scratch 0 (flat ps)) (q : e' ≡ sets ends 0 es)
-      (l : List Float) (k : List ℕ) (lp : l ≡ flat ps) (kp : k ≡ es) (cs : List Float) (cp : cs ≡ cycleOf intervals) (period : Float) (pp : period ≡ sumFrom f0 cs) (start : Pos) (sp : start ≡ startOf cs phase period)
-      (r : Laid) (vs' : List ℕ) (fs' : List Float) (h : laidOutcome r vs' fs' ≡ laying (walked cs start (pointsIn l) k) us gs) where
-    walks : walked cs start (pointsIn l) k ≡ ss
-    walks = let m : pointsIn l ≡ ps = ap pointsIn lp ∙ pointsIn-flat ps in rw (m, kp, sp, pp, cp)
-
-    lays : laidOutcome r vs' fs' ≡ laying ss us gs
-    lays = h ∙ ap (λ (z : List Segment). laying z us gs) walks
-
-    pub not-laid : r .fits ≡ false → outcome (refusedBy 3) s' e' vs' fs' ≡ cutting verbs points rule intervals phase tolerance scratch ends us gs
-    not-laid n = go (outFits ss us gs) refl lays
-      where
-        go : (b : Bool) → outFits ss us gs ≡ b → laidOutcome r vs' fs' ≡ laidIf b ss us gs → outcome (refusedBy 3) s' e' vs' fs' ≡ cutting verbs points rule intervals phase tolerance scratch ends us gs
-        go true g z = absurd (true≢false (sym (ap (λ (o : LaidOutcome). o .reply .fits) z) ∙ n))
-        go false g z = rw (f, p, q, g, ap (λ (o : LaidOutcome). o .verbs) z, ap (λ (o : LaidOutcome). o .floats) z)
-
-    pub is-laid : r .fits ≡ true → (t : Flattened) → t ≡ told tolerance (segments verbs points)
-        → outcome (cutInto (record { verbs = r .verbs; points = r .verbs; scratch = t .points; polylines = t .polylines; held = t .held; rule = rule })) s' e' vs' fs'
-        ≡ cutting verbs points rule intervals phase tolerance scratch ends us gs
-    is-laid y t e = go (outFits ss us gs) refl lays
-      where
-        go : (b : Bool) → outFits ss us gs ≡ b → laidOutcome r vs' fs' ≡ laidIf b ss us gs
-            → outcome (cutInto (record { verbs = r .verbs; points = r .verbs; scratch = t .points; polylines = t .polylines; held = t .held; rule = rule })) s' e' vs' fs'
-            ≡ cutting verbs points rule intervals phase tolerance scratch ends us gs
-        go true g z =
-            let n : r .verbs ≡ length ss = ap (λ (o : LaidOutcome). o .reply .verbs) z in
-            let m : length (allPoints ss) ≡ length ss = walk-points (cycleOf intervals) _ (polylines 0 ps es) in
-            rw (f, p, q, g, ap (λ (o : LaidOutcome). o .verbs) z, ap (λ (o : LaidOutcome). o .floats) z, e, n, m)
-        go false g z = absurd (true≢false (sym y ∙ ap (λ (o : LaidOutcome). o .reply .fits) z))
+  pub scratch-kept : scratchFits ps es scratch ends ≡ true → (s' : List Float) (e' : List ℕ) → s' ≡ sets scratch 0 (flat ps) → e' ≡ sets ends 0 es
+      → (l : List Float) (k : List ℕ) → l ≡ flat ps → k ≡ es → (cs : List Float) → cs ≡ cycleOf intervals → (period : Float) → period ≡ sumFrom f0 cs → (start : Pos) → start ≡ startOf cs phase period
+      → (held : ℕ) → held ≡ heldCurves tolerance (segments verbs points)
+      → (a : Answer) (vs' : List ℕ) (fs' : List Float) → cutOutcome a vs' fs' ≡ outOutcome (walked cs start (pointsIn l) k) (length l / 2) (length k) held rule us gs
+      → outcome a s' e' vs' fs' ≡ cutting verbs points rule intervals phase tolerance scratch ends us gs
+  scratch-kept f s' e' p q l k lp kp cs cp period pp start sp held hp a vs' fs' h =
+      let n : length l / 2 ≡ length ps = omega (arith, ap length lp, length-flat ps) in
+      let m : pointsIn l ≡ ps = ap pointsIn lp ∙ pointsIn-flat ps in
+      let d : walked cs start (pointsIn l) k ≡ ss = rw (m, kp, sp, pp, cp) in
+      rw (f, p, q) (ap (keeping (sets scratch 0 (flat ps)) (sets ends 0 es)) (h ∙ rw (d, n, kp, hp)))
 
   -- ---- the whole call
 

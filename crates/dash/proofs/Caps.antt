@@ -12,6 +12,7 @@ use lib.Ieee.{Float}
 use borrow.Author.Tests.{le-leb, lt-leb, leb-true, leb-false}
 use Rattle.vec2.specs.Points.{flat}
 use Rattle.path.specs.declared.Segment.{Segment}
+use Rattle.path.specs.declared.FillRule.{FillRule}
 use Rattle.path.specs.Segment.{bytesOf, allPoints}
 use Rattle.path.specs.Check.{maxVerbs}
 use Rattle.vec2.specs.declared.Vec2.{Vec2}
@@ -20,8 +21,8 @@ use Rattle.walk.specs.Walk.{walkAll}
 use Rattle.walk.proofs.Lays.{walk-points}
 use Rattle.walk.specs.Lay.{Out, out, laid, Room}
 use Rattle.walk.specs.Count.{UpTo, itself}
-use Rattle.dash.specs.Dash.{fitsBoth, outFits, Cap}
-use Rattle.dash.specs.Lay.{laidOutcome, laidIf, laying}
+use Rattle.dash.specs.Answer.{refusedBy, cutInto}
+use Rattle.dash.specs.Dash.{fitsBoth, outFits, Cap, cutOutcome, outIf, outOutcome}
 
 pub both : (a b : Bool) → a && b ≡ true → (a ≡ true) × (b ≡ true)
 both true b h = (refl, h)
@@ -70,8 +71,9 @@ module _ (cs : List Float) (start : Pos) (ls : List (List Vec2)) (us : List ℕ)
   fits-is : outFits ss us gs ≡ leb (length ss) cap
   fits-is = rw one (c (length ss))
 
-  pub too-many : cap < n → laidOutcome (record { verbs = 0; fits = false }) us gs ≡ laying ss us gs
-  too-many h = let e : outFits ss us gs ≡ false = fits-is ∙ lt-leb (length ss) cap (u .over h) in ap (λ (b : Bool). laidIf b ss us gs) (sym e)
+  module _ (np k held : ℕ) (rule : FillRule) where
+    pub too-many : cap < n → cutOutcome (refusedBy 3) us gs ≡ outOutcome ss np k held rule us gs
+    too-many h = let e : outFits ss us gs ≡ false = fits-is ∙ lt-leb (length ss) cap (u .over h) in ap (λ (b : Bool). outIf b ss np k held rule us gs) (sym e)
 
   module _ (h : n ≤ cap) where
     all-fits : outFits ss us gs ≡ true
@@ -80,9 +82,11 @@ module _ (cs : List Float) (start : Pos) (ls : List (List Vec2)) (us : List ℕ)
     pub has-room : Room (length us) (length gs) (laid (out us gs 0) ss)
     has-room = let f = fits (length ss) (length (allPoints ss)) (length us) (length gs) all-fits in (omega (arith, f .verb), omega (arith, f .point))
 
-    pub laid-out : (vs : List ℕ) (fs : List Float) (m : ℕ) → out vs fs m ≡ laid (out us gs 0) ss → laidOutcome (record { verbs = m; fits = true }) vs fs ≡ laying ss us gs
-    laid-out vs fs m e =
+    pub laid-out : (np k held : ℕ) (rule : FillRule) (vs : List ℕ) (fs : List Float) (m : ℕ) → out vs fs m ≡ laid (out us gs 0) ss →
+        cutOutcome (cutInto (record { verbs = m; points = m; scratch = np; polylines = k; held = held; rule = rule })) vs fs ≡ outOutcome ss np k held rule us gs
+    laid-out np k held rule vs fs m e =
         let a : m ≡ length ss = ap (λ (o : Out). o .at) e ∙ zero-add (length ss) in
+        let b : m ≡ length (allPoints ss) = a ∙ sym one in
         let d : vs ≡ sets us 0 (bytesOf ss) = ap (λ (o : Out). o .verbs) e in
         let f : fs ≡ sets gs 0 (flat (allPoints ss)) = ap (λ (o : Out). o .floats) e in
         rw all-fits (cc)

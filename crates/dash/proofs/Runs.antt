@@ -17,7 +17,7 @@ use Rattle.path.specs.declared.Segment.{Segment}
 use Rattle.path.specs.declared.FillRule.{FillRule}
 use Rattle.path.specs.Segment.{segments, bytesOf, allPoints}
 use Rattle.path.proofs.Encoded.{length-bytes}
-use Rattle.flatten.specs.Flatten.{pointsOut, endsOut, told}
+use Rattle.flatten.specs.Flatten.{pointsOut, endsOut, heldCurves}
 use Rattle.flatten.specs.Polylines.{polylines}
 use Rattle.pattern.specs.Cycle.{cycleOf, period, cuts}
 use Rattle.walk.specs.Phase.{startOf}
@@ -38,15 +38,14 @@ module _ (path : List Segment) (intervals : List Float) (phase tolerance : Float
   abbrev ss : List Segment
   ss = dashes intervals phase ps es
 
-  -- what is said of them
-  abbrev said : Outline
-  said = outlineFor ss (told tolerance path) rule
+  abbrev held : ℕ
+  held = heldCurves tolerance path
 
   -- what is left once the scratch takes the polylines, by whether the dash buffers take the dashes
   abbrev left : Bool → Outcome
-  left b = keeping (sets scratch 0 (flat ps)) (sets ends 0 es) (outIf b ss said vs fs)
+  left b = keeping (sets scratch 0 (flat ps)) (sets ends 0 es) (outIf b ss (length ps) (length es) held rule vs fs)
 
-  laid : scratchFits ps es scratch ends ≡ true → outFits ss vs fs ≡ true → said ≡ o → CutIntoRuns path intervals phase tolerance rule o (left true)
+  laid : scratchFits ps es scratch ends ≡ true → outFits ss vs fs ≡ true → outlineFor ss (length ps) (length es) held rule ≡ o → CutIntoRuns path intervals phase tolerance rule o (left true)
   laid f g q =
       let a = both (leb (length ps) (length scratch / 2)) (leb (length es) (length ends)) f in
       let y : length ps ≤ length scratch / 2 = leb-true _ _ (a .0) in
@@ -65,6 +64,7 @@ module _ (path : List Segment) (intervals : List Float) (phase tolerance : Float
         ended = ended;
         runs = rw (kept, ended) (all-runs (cycleOf intervals) (startOf (cycleOf intervals) phase (period intervals)) (polylines 0 ps es));
         held = sym (ap (λ (z : Outline). z .held) q);
+        said = ap (λ (z : Outline). z .held) q;
         same-rule = sym (ap (λ (z : Outline). z .rule) q);
       }
 
@@ -80,11 +80,11 @@ module _ (path : List Segment) (intervals : List Float) (phase tolerance : Float
   out true f g h = laid f g (Option·some-injective _ o h)
   out false f g h = not-cut h
 
-  kept : (b : Bool) → scratchFits ps es scratch ends ≡ b → Cuts (keptIf b ps es ss said scratch ends vs fs)
+  kept : (b : Bool) → scratchFits ps es scratch ends ≡ b → Cuts (keptIf b ps es ss held rule scratch ends vs fs)
   kept true f h = out (outFits ss vs fs) f refl h
   kept false f h = not-cut h
 
-  answers : (n : ℕ) (c : Bool) → Cuts (answered n c (keptIf (scratchFits ps es scratch ends) ps es ss said scratch ends vs fs) scratch ends vs fs)
+  answers : (n : ℕ) (c : Bool) → Cuts (answered n c (keptIf (scratchFits ps es scratch ends) ps es ss held rule scratch ends vs fs) scratch ends vs fs)
   answers (suc n) c h = not-cut h
   answers zero false h = not-cut h
   answers zero true h = kept (scratchFits ps es scratch ends) refl h
@@ -95,3 +95,29 @@ pub dash-runs : (verbs : List ℕ) (points : List Float) (rule : FillRule) (inte
 dash-runs verbs points rule intervals phase tolerance scratch ends vs fs b o e h =
     subst (λ (z : Outcome). CutIntoRuns (segments verbs points) intervals phase tolerance rule o z) (sym e)
     (answers (segments verbs points) intervals phase tolerance rule scratch ends vs fs o (refusal verbs points intervals (length scratch) (length fs)) (cuts intervals phase tolerance) (sym (ap (λ (z : Outcome). z .reply .cut) e) ∙ h))
+
+-- ---- where nothing is cut, no curve is said to be held back
+
+module _ (ps : List Vec2) (es : List ℕ) (ss : List Segment) (n : ℕ) (rule : FillRule) (scratch : List Float) (ends vs : List ℕ) (fs : List Float) where
+  abbrev Silent : Outcome → Type 0
+  Silent z = z .reply .cut ≡ none → z .reply .held ≡ 0
+
+  silent-kept : (b c : Bool) → outFits ss vs fs ≡ c → Silent (keptIf b ps es ss n rule scratch ends vs fs)
+  silent-kept true true g h = absurd (Option·none-ne-some (outlineFor ss (length ps) (length es) n rule) (sym (rw g at h)))
+  silent-kept true false g h = rw g
+  silent-kept false c g h = refl
+
+  silent-answer : (k : ℕ) (c : Bool) → Silent (answered k c (keptIf (scratchFits ps es scratch ends) ps es ss n rule scratch ends vs fs) scratch ends vs fs)
+  silent-answer (suc k) c h = refl
+  silent-answer zero false h = refl
+  silent-answer zero true h = silent-kept (scratchFits ps es scratch ends) (outFits ss vs fs) refl h
+
+pub none-held : (verbs : List ℕ) (points : List Float) (rule : FillRule) (intervals : List Float) (phase tolerance : Float) (scratch : List Float) (ends vs : List ℕ) (fs : List Float) (b : Outcome)
+    → b ≡ dashing verbs points rule intervals phase tolerance scratch ends vs fs → b .reply .cut ≡ none → b .reply .held ≡ 0
+none-held verbs points rule intervals phase tolerance scratch ends vs fs b e h =
+    let path = segments verbs points in
+    let ps = pointsOut tolerance path in
+    let es = endsOut tolerance path in
+    ap (λ (z : Outcome). z .reply .held) e
+    ∙ silent-answer ps es (dashes intervals phase ps es) (heldCurves tolerance path) rule scratch ends vs fs (refusal verbs points intervals (length scratch) (length fs)) (cuts intervals phase tolerance)
+    (sym (ap (λ (z : Outcome). z .reply .cut) e) ∙ h)

@@ -17,7 +17,7 @@ use Rattle.path.specs.Segment.{segments}
 use Rattle.path.specs.Check.{badPath}
 use Rattle.flatten.specs.declared.Spot.{Spot}
 use Rattle.flatten.specs.declared.Flattened.{Flattened}
-use Rattle.flatten.specs.Flatten.{nowhere, after, stops, onlyIf, writes, written, endings, pointsOut, endsOut, told, flatRefusal, replied, flatten, Outcome, outcome}
+use Rattle.flatten.specs.Flatten.{nowhere, after, stops, onlyIf, writes, written, endings, pointsOut, endsOut, heldCurves, flatRefusal, replied, flatten, Outcome, outcome}
 use Rattle.pattern.proofs.Cycles.{take-stored}
 use Rattle.vec2.proofs.Points.{length-flat}
 use Rattle.dash.proofs.Caps.{both}
@@ -92,7 +92,6 @@ module _ (vs : List ℕ) (fs : List Float) (tol : Float) (scratch : List Float) 
 
   -- or it keeps the polylines
   pub record Kept (r : Flattened) (s' : List Float) (e' : List ℕ) : Type 0 where
-    pub answer : r ≡ told tol path
     pub fit : scratchFits ps es scratch ends ≡ true
     pub scratch-is : s' ≡ sets scratch 0 (flat ps)
     pub ends-are : e' ≡ sets ends 0 es
@@ -100,6 +99,7 @@ module _ (vs : List ℕ) (fs : List Float) (tol : Float) (scratch : List Float) 
     pub rooms : r .polylines ≤ length e'
     pub points : take (2 * r .points) s' ≡ flat ps
     pub polylines : take (r .polylines) e' ≡ es
+    pub held : r .held ≡ heldCurves tol path
 
   module _ (r : Flattened) (s' : List Float) (e' : List ℕ) (e : outcome r s' e' ≡ flatten vs fs tol scratch ends) where
     pub full : (r .refused ≡ 0 → ⊥) → Full s' e'
@@ -122,7 +122,6 @@ module _ (vs : List ℕ) (fs : List Float) (tol : Float) (scratch : List Float) 
             let s : s' ≡ sets scratch 0 (flat ps) = ap (λ (o : Outcome). o .floats) z in
             let t : e' ≡ sets ends 0 es = ap (λ (o : Outcome). o .ends) z in
             record {
-              answer = ap (λ (o : Outcome). o .answer) z;
               fit = q;
               scratch-is = s;
               ends-are = t;
@@ -130,5 +129,6 @@ module _ (vs : List ℕ) (fs : List Float) (tol : Float) (scratch : List Float) 
               rooms = omega (arith, k, m, ap length t, length-sets ends 0 es);
               points = ap (take (2 * r .points)) s ∙ front scratch (flat ps) (2 * r .points) (omega (arith, n, length-flat ps)) (omega (arith, l, length-flat ps));
               polylines = ap (take (r .polylines)) t ∙ front ends es (r .polylines) m k;
+              held = ap (λ (o : Outcome). o .answer .held) z;
             }
         go false q z = absurd (omega (arith, h, ap (λ (o : Outcome). o .answer .refused) z))

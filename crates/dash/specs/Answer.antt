@@ -11,7 +11,7 @@ pub record Answer : Type 0 where
   pub number : ℕ
   -- the drawn outline is the path's own part
   pub whole : Bool
-  -- what is cut: how much of the dash buffers and the scratch is filled, and the fill rule
+  -- what is cut: how much of the dash buffers and the scratch is filled, how many curves were held back, and the fill rule
   pub cut : Option Outline
   -- W2: how many of the path's curves were held back; 0 for Whole, and beside a refusal
   pub held : ℕ

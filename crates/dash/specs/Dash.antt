@@ -13,8 +13,7 @@ use Rattle.path.specs.declared.Segment.{Segment}
 use Rattle.path.specs.declared.FillRule.{FillRule}
 use Rattle.path.specs.Segment.{bytesOf, allPoints, segments}
 use Rattle.path.specs.Check.{badPath, maxVerbs, maxPoints}
-use Rattle.flatten.specs.declared.Flattened.{Flattened}
-use Rattle.flatten.specs.Flatten.{pointsOut, endsOut, told}
+use Rattle.flatten.specs.Flatten.{pointsOut, endsOut, heldCurves}
 use Rattle.flatten.specs.Polylines.{polylines}
 use Rattle.pattern.specs.Cycle.{cycleOf, period, cuts}
 use Rattle.walk.specs.declared.Pos.{Pos}
@@ -63,7 +62,7 @@ Cap verbs floats r = (n : ℕ) → fitsBoth n n verbs floats ≡ leb n r
 abbrev pub outFits : List Segment → List ℕ → List Float → Bool
 outFits ss verbs floats = fitsBoth (length ss) (length (allPoints ss)) (length verbs) (length floats)
 
--- ---- the reply and the dash buffers, once the scratch keeps the polylines
+-- ---- the reply and the dash buffers, once the scratch keeps n points in k polylines of a path with `held` curves held back
 
 pub record CutOutcome : Type 0 where
   pub reply : Answer
@@ -73,14 +72,21 @@ pub record CutOutcome : Type 0 where
 abbrev pub cutOutcome : Answer → List ℕ → List Float → CutOutcome
 cutOutcome a vs fs = record { reply = a; verbs = vs; floats = fs }
 
--- what is said of the dashes ss of a path with a flattening's totals t
-abbrev pub outlineFor : List Segment → Flattened → FillRule → Outline
-outlineFor ss t rule = record { verbs = length ss; points = length (allPoints ss); scratch = t .points; polylines = t .polylines; held = t .held; rule = rule }
+abbrev pub outlineFor : List Segment → ℕ → ℕ → ℕ → FillRule → Outline
+outlineFor ss n k held rule = record { verbs = length ss; points = length (allPoints ss); scratch = n; polylines = k; held = held; rule = rule }
 
 -- laid where the dash buffers take them, else 3
-abbrev pub outIf : Bool → List Segment → Outline → List ℕ → List Float → CutOutcome
-outIf true ss o vs fs = cutOutcome (cutInto o) (sets vs 0 (bytesOf ss)) (sets fs 0 (flat (allPoints ss)))
-outIf false ss o vs fs = cutOutcome (refusedBy 3) vs fs
+abbrev pub outIf : Bool → List Segment → ℕ → ℕ → ℕ → FillRule → List ℕ → List Float → CutOutcome
+outIf true ss n k held rule vs fs = cutOutcome (cutInto (outlineFor ss n k held rule)) (sets vs 0 (bytesOf ss)) (sets fs 0 (flat (allPoints ss)))
+outIf false ss n k held rule vs fs = cutOutcome (refusedBy 3) vs fs
+
+abbrev pub outOutcome : List Segment → ℕ → ℕ → ℕ → FillRule → List ℕ → List Float → CutOutcome
+outOutcome ss n k held rule vs fs = outIf (outFits ss vs fs) ss n k held rule vs fs
+
+-- the same of the scratch: flat points and their ends, walked by a cycle from a start in it
+abbrev pub scratchOutcome : List Float → Pos → List Float → List ℕ → ℕ → FillRule → List ℕ → List Float → CutOutcome
+scratchOutcome cycle start scratch ends held rule vs fs =
+    outOutcome (walked cycle start (pointsIn scratch) ends) (length scratch / 2) (length ends) held rule vs fs
 
 -- ---- the reply and all four buffers
 
@@ -98,9 +104,10 @@ abbrev pub keeping : List Float → List ℕ → CutOutcome → Outcome
 keeping s e o = outcome (o .reply) s e (o .verbs) (o .floats)
 
 -- the scratch keeps the polylines where it takes them, else 3
-abbrev pub keptIf : Bool → List Vec2 → List ℕ → List Segment → Outline → List Float → List ℕ → List ℕ → List Float → Outcome
-keptIf true ps es ss o scratch ends vs fs = keeping (sets scratch 0 (flat ps)) (sets ends 0 es) (outIf (outFits ss vs fs) ss o vs fs)
-keptIf false ps es ss o scratch ends vs fs = outcome (refusedBy 3) scratch ends vs fs
+abbrev pub keptIf : Bool → List Vec2 → List ℕ → List Segment → ℕ → FillRule → List Float → List ℕ → List ℕ → List Float → Outcome
+keptIf true ps es ss held rule scratch ends vs fs =
+    keeping (sets scratch 0 (flat ps)) (sets ends 0 es) (outOutcome ss (length ps) (length es) held rule vs fs)
+keptIf false ps es ss held rule scratch ends vs fs = outcome (refusedBy 3) scratch ends vs fs
 
 -- Cut: the path is flattened into the scratch, and each polyline walked; 3 for the scratch comes before 3 for the dash buffers
 abbrev pub cutting : List ℕ → List Float → FillRule → List Float → Float → Float → List Float → List ℕ → List ℕ → List Float → Outcome
@@ -108,8 +115,7 @@ cutting verbs points rule intervals phase tolerance scratch ends vs fs =
     let path = segments verbs points in
     let ps = pointsOut tolerance path in
     let es = endsOut tolerance path in
-    let ss = dashes intervals phase ps es in
-    keptIf (scratchFits ps es scratch ends) ps es ss (outlineFor ss (told tolerance path) rule) scratch ends vs fs
+    keptIf (scratchFits ps es scratch ends) ps es (dashes intervals phase ps es) (heldCurves tolerance path) rule scratch ends vs fs
 
 -- by the refusal's number; then Whole is decided, and touches no buffer
 abbrev pub answered : ℕ → Bool → Outcome → List Float → List ℕ → List ℕ → List Float → Outcome

@@ -1,5 +1,6 @@
 -- Demand 3's dashing half, of the buffers that `dash_path` leaves: where it answers Cut, the filled part of the dash buffers is runs and nothing else, those of
--- the polylines that the scratch keeps, none left out, in order. Definitions only.
+-- the polylines that the scratch keeps, none left out, in order; and the outline has the path's fill rule and the number of its curves that were held back
+-- (W2). Definitions only.
 use mathlib.Core.Path.{_≡_}
 use Prim.Native.Nat.{_*_}
 use mathlib.Core.Bool.{false}
@@ -35,6 +36,7 @@ pub record CutIntoRuns (path : List Segment) (intervals : List Float) (phase tol
   pub kept : pointsIn (take (2 * o .scratch) (b .scratch)) ≡ pointsOut tolerance path
   pub ended : take (o .polylines) (b .ends) ≡ endsOut tolerance path
   pub runs : AllRuns (walkOf intervals phase) (polylines 0 (pointsIn (take (2 * o .scratch) (b .scratch))) (take (o .polylines) (b .ends))) segments
-  -- and says how many of its curves were held back
+  -- W2: the outline, and the answer with it, says how many of the path's curves were held back
   pub held : o .held ≡ heldCurves tolerance path
+  pub said : b .reply .held ≡ o .held
   pub same-rule : o .rule ≡ rule

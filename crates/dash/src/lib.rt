@@ -10,13 +10,13 @@ ghost use Rattle.walk.specs.Count.{UpTo, itself};
 ghost use Rattle.walk.specs.Lengths.{Kept};
 ghost use Rattle.dash.specs.Ends.{Ordered};
 ghost use Rattle.dash.specs.Answer.{answerOf};
-ghost use Rattle.dash.specs.Dash.{refusal as refusalOf, walked, Cap, outcome, cutting, dashing};
-ghost use Rattle.dash.specs.Lay.{laidOutcome, laying};
+ghost use Rattle.dash.specs.Dash.{refusal as refusalOf, walked, Cap, cutOutcome, scratchOutcome, outcome, cutting, dashing};
 ghost use Rattle.dash.specs.Outline.{part as partOf, outlineOf};
 use path::FillRule;
 use walk::Pos;
 
-// What is cut: the verbs and points in the dash buffers, the points and polylines in the scratch, the curves that were held back, and the path's fill rule.
+// What is cut: the verbs and points in the dash buffers, the points and polylines in the scratch, how many of the path's curves were held back, and the
+// path's fill rule.
 pub struct Outline {
     pub verbs: usize,
     pub points: usize,
@@ -142,63 +142,99 @@ fn lay_all(
     k
 }
 
-// How many verbs are laid; or that the dash buffers do not take them, and nothing is laid.
-pub struct Laid {
-    pub verbs: usize,
-    pub fits: bool,
-}
-
 // Counts what the polylines give, and lays it where it fits, by the lengths of the first legs.
-fn lay_by(
+fn cut_by(
     points: &[f32],
     lengths: &[f32],
     ends: &[usize],
     cycle: &[f32],
     start: Pos,
+    held: usize,
+    rule: FillRule,
     verbs: &mut [u8],
     floats: &mut [f32],
-) -> Laid
+) -> Dashed
     requires { ⌜ (start .index < length (now cycle)) × Ordered (length (now points)) 0 (now ends) × Kept (now lengths) (now points) ⌝ }
-    ensures { λ r. ⌜ laidOutcome r (now (verbs .exit)) (now (floats .exit))
-        ≡ laying (walked (now (cycle .entry)) start (pointsIn (now (points .entry))) (now (ends .entry))) (now (verbs .entry)) (now (floats .entry)) ⌝ }
+    ensures { λ r. ⌜ cutOutcome (answerOf r) (now (verbs .exit)) (now (floats .exit))
+        ≡ scratchOutcome (now (cycle .entry)) start (now (points .entry)) (now (ends .entry)) held rule (now (verbs .entry)) (now (floats .entry)) ⌝ }
 {
     let cap = room(verbs.len(), floats.len());
     let n = count_all(points, lengths, ends, cycle, start, cap);
     if cap < n {
-        return Laid {
-            verbs: 0,
-            fits: false,
-        };
+        return Dashed::Refused(3);
     }
     let m = lay_all(points, lengths, ends, cycle, start, verbs, floats);
-    Laid {
+    let o = Outline {
         verbs: m,
-        fits: true,
-    }
+        points: m,
+        scratch: points.len() / 2,
+        polylines: ends.len(),
+        held,
+        rule,
+    };
+    Dashed::Cut(o)
 }
 
-// Counts and lays. The length of a leg takes a root, so lengths are kept from the counting to the laying: few on a short path, which then does not pay
-// for clearing many, and many on a long one. The legs behind those that are kept are measured twice.
-fn lay_dashes(
+// The length of a leg takes a root, so lengths are kept from the counting to the laying: few on a short path, which then does not pay for clearing
+// many.
+fn cut_few(
     points: &[f32],
     ends: &[usize],
     cycle: &[f32],
     start: Pos,
+    held: usize,
+    rule: FillRule,
     verbs: &mut [u8],
     floats: &mut [f32],
-) -> Laid
+) -> Dashed
     requires { ⌜ (start .index < length (now cycle)) × Ordered (length (now points)) 0 (now ends) ⌝ }
-    ensures { λ r. ⌜ laidOutcome r (now (verbs .exit)) (now (floats .exit))
-        ≡ laying (walked (now (cycle .entry)) start (pointsIn (now (points .entry))) (now (ends .entry))) (now (verbs .entry)) (now (floats .entry)) ⌝ }
+    ensures { λ r. ⌜ cutOutcome (answerOf r) (now (verbs .exit)) (now (floats .exit))
+        ≡ scratchOutcome (now (cycle .entry)) start (now (points .entry)) (now (ends .entry)) held rule (now (verbs .entry)) (now (floats .entry)) ⌝ }
+{
+    let mut kept = [0.0f32; 256];
+    walk::keep_lengths(points, &mut kept);
+    cut_by(points, &kept, ends, cycle, start, held, rule, verbs, floats)
+}
+
+// Many on a long one. The legs behind those that are kept are measured twice.
+fn cut_many(
+    points: &[f32],
+    ends: &[usize],
+    cycle: &[f32],
+    start: Pos,
+    held: usize,
+    rule: FillRule,
+    verbs: &mut [u8],
+    floats: &mut [f32],
+) -> Dashed
+    requires { ⌜ (start .index < length (now cycle)) × Ordered (length (now points)) 0 (now ends) ⌝ }
+    ensures { λ r. ⌜ cutOutcome (answerOf r) (now (verbs .exit)) (now (floats .exit))
+        ≡ scratchOutcome (now (cycle .entry)) start (now (points .entry)) (now (ends .entry)) held rule (now (verbs .entry)) (now (floats .entry)) ⌝ }
+{
+    let mut kept = [0.0f32; 8192];
+    walk::keep_lengths(points, &mut kept);
+    cut_by(points, &kept, ends, cycle, start, held, rule, verbs, floats)
+}
+
+// Counts and lays. Two functions make the kept lengths, since the compiler would lay their code into one place that is slower.
+fn cut_all(
+    points: &[f32],
+    ends: &[usize],
+    cycle: &[f32],
+    start: Pos,
+    held: usize,
+    rule: FillRule,
+    verbs: &mut [u8],
+    floats: &mut [f32],
+) -> Dashed
+    requires { ⌜ (start .index < length (now cycle)) × Ordered (length (now points)) 0 (now ends) ⌝ }
+    ensures { λ r. ⌜ cutOutcome (answerOf r) (now (verbs .exit)) (now (floats .exit))
+        ≡ scratchOutcome (now (cycle .entry)) start (now (points .entry)) (now (ends .entry)) held rule (now (verbs .entry)) (now (floats .entry)) ⌝ }
 {
     if points.len() <= 512 {
-        let mut few = [0.0f32; 256];
-        walk::keep_lengths(points, &mut few);
-        return lay_by(points, &few, ends, cycle, start, verbs, floats);
+        return cut_few(points, ends, cycle, start, held, rule, verbs, floats);
     }
-    let mut many = [0.0f32; 8192];
-    walk::keep_lengths(points, &mut many);
-    lay_by(points, &many, ends, cycle, start, verbs, floats)
+    cut_many(points, ends, cycle, start, held, rule, verbs, floats)
 }
 
 // Flattens into the scratch, and lays the dashes.
@@ -227,19 +263,16 @@ fn cut(
     let start = walk::start_of(cycle, phase, period);
     let n = 2 * f.points;
     let k = f.polylines;
-    let l = lay_dashes(&scratch[..n], &ends[..k], cycle, start, vs, fs);
-    if l.fits {
-        let o = Outline {
-            verbs: l.verbs,
-            points: l.verbs,
-            scratch: f.points,
-            polylines: f.polylines,
-            held: f.held,
-            rule,
-        };
-        return Dashed::Cut(o);
-    }
-    Dashed::Refused(3)
+    cut_all(
+        &scratch[..n],
+        &ends[..k],
+        cycle,
+        start,
+        f.held,
+        rule,
+        vs,
+        fs,
+    )
 }
 
 // Cuts a path into the drawn pieces of a dash pattern.

@@ -13,8 +13,8 @@ use Rattle.path.specs.declared.Segment.{Segment}
 use Rattle.path.specs.Segment.{isCurve, used, segAt, segments}
 use Rattle.path.specs.Check.{badPath}
 use Rattle.path.proofs.Steps.{left, next-left}
-use Rattle.flatten.specs.Flatten.{nowhere, after, spot, noCount, curveCounted, countAt, carriedCount}
-use Rattle.flatten.specs.Kept.{carriedCounted}
+use Rattle.flatten.specs.Flatten.{nowhere, after, spot, noCount, curveAnswer, countAt, carriedCount}
+use Rattle.flatten.specs.Kept.{carriedAnswer}
 
 -- a turn: one segment more is passed
 pub count-turn : (vs : List ℕ) (fs : List Float) (i k j : ℕ) (tol : Float) (w : Spot) (all : SegmentCount) → i < length vs → i < j →
@@ -29,7 +29,7 @@ count-turn vs fs i k j tol w all h g e s es v ev u eu =
 -- the segment itself
 pub count-here : (vs : List ℕ) (fs : List Float) (i k j : ℕ) (tol : Float) (w : Spot) (all : SegmentCount) → i < length vs → i ≡ j →
     countAt tol w (left vs fs i k) (j - i) ≡ all →
-    (s : Segment) → s ≡ segAt (getD vs i 0) fs k → (n : SegmentCount) → n ≡ curveCounted tol w s → n ≡ all
+    (s : Segment) → s ≡ segAt (getD vs i 0) fs k → (n : SegmentCount) → n ≡ curveAnswer tol w s → n ≡ all
 unfolding countAt
 count-here vs fs i k j tol w all h q e s es n en =
     let d : j - i ≡ 0 = omega arith in
@@ -56,11 +56,11 @@ module _ (vs : List ℕ) (fs : List Float) (tol : Float) (j : ℕ) where
 -- ---- the N that is asked for is the carried count
 
 count-behind : (tol : Float) (pre : List Segment) (s : Segment) (post : List Segment) (w : Spot) →
-    countAt tol w (pre ++ s ∷ post) (length pre) ≡ curveCounted tol (spot w pre) s
+    countAt tol w (pre ++ s ∷ post) (length pre) ≡ curveAnswer tol (spot w pre) s
 unfolding countAt spot
 count-behind tol [] s post w = refl
 count-behind tol (x ∷ pre) s post w = count-behind tol pre s post (after w x)
 
 pub asked : (tol : Float) (pre : List Segment) (s : Segment) (post : List Segment) → isCurve s ≡ true →
-    countAt tol nowhere (pre ++ s ∷ post) (length pre) ≡ carriedCounted tol pre s
+    countAt tol nowhere (pre ++ s ∷ post) (length pre) ≡ carriedAnswer tol pre s
 asked tol pre s post h = count-behind tol pre s post nowhere ∙ rw h

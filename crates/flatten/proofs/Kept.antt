@@ -34,8 +34,8 @@ kept tol ss =
       lines = refl;
       counts = refl;
       closings = refl;
-      held = refl;
       sum = sum tol ss;
+      held = refl;
       points = refl;
       polys = refl;
     }

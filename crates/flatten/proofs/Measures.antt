@@ -14,12 +14,12 @@ use Rattle.path.specs.declared.Segment.the-variants.{Move, Line, Quad, Cubic, C
 use Rattle.path.specs.Segment.{isLine, used, segAt}
 use Rattle.path.proofs.Steps.{left, next-left}
 use Rattle.float.specs.declared.SegmentCount.{SegmentCount}
-use Rattle.float.specs.Count.{segmentCounted}
+use Rattle.float.specs.Count.{segmentAnswer}
 use Rattle.curve.specs.Count.{quadS, cubicS}
 use Rattle.flatten.specs.declared.Spot.{Spot}
 use Rattle.flatten.specs.declared.Tally.{Tally}
 use Rattle.flatten.specs.declared.Gauge.{Gauge}
-use Rattle.flatten.specs.Flatten.{nowhere, movedTo, after, opens, adds, places, isHeld, one, curveCount, noCount, curveCounted, total, keptStarts, lines, counts, addedClosings, heldCurves, pointsOut, endsOut}
+use Rattle.flatten.specs.Flatten.{nowhere, movedTo, after, opens, adds, places, isHeld, one, curveCount, noCount, curveAnswer, total, keptStarts, lines, counts, addedClosings, heldCurves, pointsOut, endsOut}
 use Rattle.flatten.specs.Steps.{none, tally, drawnMore, closedMore, gauged, measured, Small}
 use Rattle.flatten.proofs.Lengths.{count-most, one-most, sum, polylines-are-starts}
 
@@ -52,23 +52,23 @@ measured-none vs fs i k tol t w h = rw (drop-of-length-le vs h)
 -- ---- a curve's count, by its kind
 
 module _ (tol : Float) (w : Spot) (s : Segment) (n : SegmentCount) where
-  pub count-move : (p : Vec2) → s ≡ Move p → n ≡ noCount → n ≡ curveCounted tol w s
+  pub count-move : (p : Vec2) → s ≡ Move p → n ≡ noCount → n ≡ curveAnswer tol w s
   unfolding isHeld
   count-move p e h = rw (e, h)
 
-  pub count-line : (p : Vec2) → s ≡ Line p → n ≡ noCount → n ≡ curveCounted tol w s
+  pub count-line : (p : Vec2) → s ≡ Line p → n ≡ noCount → n ≡ curveAnswer tol w s
   unfolding isHeld
   count-line p e h = rw (e, h)
 
-  pub count-quad : (c p : Vec2) → s ≡ Quad c p → n ≡ segmentCounted (quadS tol (w .pen) c p) → n ≡ curveCounted tol w s
+  pub count-quad : (c p : Vec2) → s ≡ Quad c p → n ≡ segmentAnswer (quadS tol (w .pen) c p) → n ≡ curveAnswer tol w s
   unfolding places isHeld
   count-quad c p e h = rw (e, h)
 
-  pub count-cubic : (c d p : Vec2) → s ≡ Cubic c d p → n ≡ segmentCounted (cubicS tol (w .pen) c d p) → n ≡ curveCounted tol w s
+  pub count-cubic : (c d p : Vec2) → s ≡ Cubic c d p → n ≡ segmentAnswer (cubicS tol (w .pen) c d p) → n ≡ curveAnswer tol w s
   unfolding places isHeld
   count-cubic c d p e h = rw (e, h)
 
-  pub count-close : s ≡ Close → n ≡ noCount → n ≡ curveCounted tol w s
+  pub count-close : s ≡ Close → n ≡ noCount → n ≡ curveAnswer tol w s
   unfolding isHeld
   count-close e h = rw (e, h)
 
@@ -83,11 +83,11 @@ module _ (tol : Float) (g : Gauge) (s : Segment) where
   unfolding tally after isHeld
   more-line p e r h = rw (e, h) (simp add-zero)
 
-  pub more-quad : (c p : Vec2) → s ≡ Quad c p → (n : SegmentCount) → n ≡ segmentCounted (quadS tol (g .spot .pen) c p) → (r : Gauge) → r ≡ drawnMore g p 0 (n .count) (n .held) → r ≡ gauged tol s g
+  pub more-quad : (c p : Vec2) → s ≡ Quad c p → (n : SegmentCount) → n ≡ segmentAnswer (quadS tol (g .spot .pen) c p) → (r : Gauge) → r ≡ drawnMore g p 0 (n .count) (n .held) → r ≡ gauged tol s g
   unfolding tally after places isHeld
   more-quad c p e n k r h = rw (e, h, k) (simp add-zero)
 
-  pub more-cubic : (c d p : Vec2) → s ≡ Cubic c d p → (n : SegmentCount) → n ≡ segmentCounted (cubicS tol (g .spot .pen) c d p) → (r : Gauge) → r ≡ drawnMore g p 0 (n .count) (n .held) → r ≡ gauged tol s g
+  pub more-cubic : (c d p : Vec2) → s ≡ Cubic c d p → (n : SegmentCount) → n ≡ segmentAnswer (cubicS tol (g .spot .pen) c d p) → (r : Gauge) → r ≡ drawnMore g p 0 (n .count) (n .held) → r ≡ gauged tol s g
   unfolding tally after places isHeld
   more-cubic c d p e n k r h = rw (e, h, k) (simp add-zero)
 

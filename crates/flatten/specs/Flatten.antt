@@ -64,7 +64,7 @@ places tol w (Quad c p) = quadCount tol (w .pen) c p
 places tol w (Cubic c d p) = cubicCount tol (w .pen) c d p
 places tol w Close = 0
 
--- whether a curve's count was held back; nothing else is
+-- W2: whether a curve's count was held back; nothing else is
 unfoldable pub isHeld : Float → Spot → Segment → Bool
 isHeld tol w (Move p) = false
 isHeld tol w (Line p) = false
@@ -153,7 +153,7 @@ counts tol ss = total (curveCount tol) nowhere ss
 unfoldable pub addedClosings : List Segment → ℕ
 addedClosings ss = total (λ w s. one (adds w s)) nowhere ss
 
--- held: the curves whose count was held back
+-- W2, held: how many curves' counts were held back
 unfoldable pub heldCurves : Float → List Segment → ℕ
 heldCurves tol ss = total (λ w s. one (isHeld tol w s)) nowhere ss
 
@@ -202,17 +202,18 @@ flatten vs fs tol out es = replied (flatRefusal vs fs tol out es) tol (segments 
 
 -- ---- a carried count
 
--- a curve's count; none of what is no curve
+-- of what is no curve, and past the end: 0, and not held back
 abbrev pub noCount : SegmentCount
 noCount = record { count = 0; held = false }
 
-abbrev pub curveCounted : Float → Spot → Segment → SegmentCount
-curveCounted tol w s = record { count = curveCount tol w s; held = isHeld tol w s }
+-- W2: N of a curve and whether it was held back
+abbrev pub curveAnswer : Float → Spot → Segment → SegmentCount
+curveAnswer tol w s = record { count = curveCount tol w s; held = isHeld tol w s }
 
--- that of the segment at j: none past the end
+-- that of the segment at j
 unfoldable pub countAt : Float → Spot → List Segment → ℕ → SegmentCount
 countAt tol w [] j = noCount
-countAt tol w (s ∷ ss) zero = curveCounted tol w s
+countAt tol w (s ∷ ss) zero = curveAnswer tol w s
 countAt tol w (s ∷ ss) (suc j) = countAt tol (after w s) ss j
 
 abbrev pub carriedBy : ℕ → SegmentCount → Carried

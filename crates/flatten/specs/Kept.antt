@@ -36,9 +36,9 @@ before tol pre s = written tol nowhere pre ++ onlyIf (opens (spot nowhere pre) s
 abbrev pub carried : Float → List Segment → Segment → ℕ
 carried tol pre s = places tol (spot nowhere pre) s
 
--- with whether it was held back
-abbrev pub carriedCounted : Float → List Segment → Segment → SegmentCount
-carriedCounted tol pre s = record { count = carried tol pre s; held = isHeld tol (spot nowhere pre) s }
+-- W2: with whether it was held back
+abbrev pub carriedAnswer : Float → List Segment → Segment → SegmentCount
+carriedAnswer tol pre s = record { count = carried tol pre s; held = isHeld tol (spot nowhere pre) s }
 
 pub record Stands (tol : Float) (pre : List Segment) (s : Segment) (pts : List Vec2) : Type 0 where
   -- the place of the point written last before s
@@ -55,9 +55,9 @@ pub record Stands (tol : Float) (pre : List Segment) (s : Segment) (pts : List V
 pub record Kept (tol : Float) (ss : List Segment) (t : Flattened) (pts : List Vec2) (ends : List ℕ) : Type 0 where
   -- every line and curve stands
   pub stand : (pre : List Segment) (s : Segment) (post : List Segment) → ss ≡ pre ++ s ∷ post → isDrawn s ≡ true → Stands tol pre s pts
-  -- the N that is asked for at a curve's verb is the one that it is written with, and whether it was held back is said with it
+  -- the N that is asked for at a curve's verb is the one that it is written with, and whether it was held back (W2) is said with it
   pub asked : (pre : List Segment) (s : Segment) (post : List Segment) → ss ≡ pre ++ s ∷ post → isCurve s ≡ true →
-      countAt tol nowhere ss (length pre) ≡ carriedCounted tol pre s
+      countAt tol nowhere ss (length pre) ≡ carriedAnswer tol pre s
   -- in order: a later one begins no earlier than an earlier one ends
   pub order : (pre : List Segment) (s : Segment) (mid : List Segment) (u : Segment) (post : List Segment) → ss ≡ pre ++ s ∷ (mid ++ u ∷ post) →
       isDrawn s ≡ true → isDrawn u ≡ true → length (before tol pre s) + carried tol pre s ≤ length (before tol (pre ++ s ∷ mid) u)
@@ -68,8 +68,9 @@ pub record Kept (tol : Float) (ss : List Segment) (t : Flattened) (pts : List Ve
   pub lines : t .lines ≡ lines ss
   pub counts : t .counts ≡ counts tol ss
   pub closings : t .closings ≡ addedClosings ss
-  pub held : t .held ≡ heldCurves tol ss
   pub sum : t .points ≡ t .starts + t .lines + t .counts + t .closings
+  -- W2: and so is the number of curves that were held back
+  pub held : t .held ≡ heldCurves tol ss
   -- points and polylines are those of Flatten, nothing else
   pub points : pts ≡ pointsOut tol ss
   pub polys : ends ≡ endsOut tol ss

@@ -34,7 +34,7 @@ tally tol w s t =
 -- the totals so far, and where the flattening stands: with a drawn segment to p more, `line` of a line, n of a curve and whether that was held back;
 -- with a close; with any segment
 abbrev pub drawnMore : Gauge → Vec2 → ℕ → ℕ → Bool → Gauge
-drawnMore g p line n held =
+drawnMore g p line n wasHeld =
     record {
       sum =
           record {
@@ -42,7 +42,7 @@ drawnMore g p line n held =
             lines = g .sum .lines + line;
             counts = g .sum .counts + n;
             closings = g .sum .closings;
-            held = g .sum .held + one held;
+            held = g .sum .held + one wasHeld;
           };
       spot = drawnTo (g .spot) p;
     }

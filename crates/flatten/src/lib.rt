@@ -8,7 +8,7 @@ ghost use Rattle.vec2.specs.Points.{flat};
 ghost use Rattle.path.specs.Segment.{segments};
 ghost use Rattle.path.specs.Check.{usedBy};
 ghost use Rattle.curve.specs.Count.{evalQuad, evalCubic};
-ghost use Rattle.flatten.specs.Flatten.{nowhere, closes, movedTo, drawnTo, closed, after, stops, one, onlyIf, curveCounted, curved, writes, pointsOut, endsOut, outcome, refusedBy, flatten, noCount, countAt, carriedCount};
+ghost use Rattle.flatten.specs.Flatten.{nowhere, closes, movedTo, drawnTo, closed, after, stops, one, onlyIf, curveAnswer, curved, writes, pointsOut, endsOut, outcome, refusedBy, flatten, noCount, countAt, carriedCount};
 ghost use Rattle.flatten.specs.Steps.{none, drawnMore, closedMore, gauged, measured, Small, begun, quadPoints, cubicPoints, Wrote, Ended};
 use float::SegmentCount;
 use path::Cursor;
@@ -16,7 +16,7 @@ use path::Segment;
 use path::Step;
 use vec2::Vec2;
 
-// The answer: the totals and the refusal's number, 0 for none. In a refusal the totals are all 0.
+// The answer: the totals, how many curves were held back (W2), and the refusal's number, 0 for none. In a refusal all others are 0.
 #[repr(C)]
 pub struct Flattened {
     pub points: usize,
@@ -29,7 +29,7 @@ pub struct Flattened {
     pub refused: u8,
 }
 
-// A carried count and whether it was held back, or the refusal's number beside a 0.
+// A carried count and whether it was held back, or the refusal's number beside 0 and false.
 #[repr(C)]
 pub struct Carried {
     pub count: usize,
@@ -169,6 +169,7 @@ fn ends_polyline(w: Spot, s: Segment) -> bool
     }
 }
 
+// What is said of no curve.
 fn no_count() -> SegmentCount
     ensures { λ r. ⌜ r ≡ noCount ⌝ }
 {
@@ -178,9 +179,9 @@ fn no_count() -> SegmentCount
     }
 }
 
-// A curve's N and whether it was held back; 0 for what is no curve.
+// A curve's N and whether it was held back; 0 and false for what is no curve.
 fn curve_count(tolerance: f32, w: Spot, s: Segment) -> SegmentCount
-    ensures { λ r. ⌜ r ≡ curveCounted tolerance w s ⌝ }
+    ensures { λ r. ⌜ r ≡ curveAnswer tolerance w s ⌝ }
 {
     let pen = w.pen;
     match s {
@@ -362,7 +363,7 @@ fn draw_quad(out: &mut [f32], at: usize, tolerance: f32, w: Spot, c: Vec2, p: Ve
 {
     let start = w.start;
     let pen = w.pen;
-    let n = curve::quad_segment_count(pen, c, p, tolerance).count;
+    let n = curve::quad_count(pen, c, p, tolerance);
     let a = put_if(out, at, !w.drawn, start);
     write_quad(out, a, pen, c, p, n as u16);
     a + n as usize
@@ -383,7 +384,7 @@ fn draw_cubic(
 {
     let start = w.start;
     let pen = w.pen;
-    let n = curve::cubic_segment_count(pen, c, d, p, tolerance).count;
+    let n = curve::cubic_count(pen, c, d, p, tolerance);
     let a = put_if(out, at, !w.drawn, start);
     write_cubic(out, a, pen, c, d, p, n as u16);
     a + n as usize
@@ -525,7 +526,7 @@ pub fn flatten(
 
 // ---- a carried count
 
-// The N of the verb at `index` and whether it was held back: 0 where that is no curve, or past the end.
+// The N of the verb at `index` and whether it was held back: 0 and false where that is no curve, or past the end.
 fn count_at(verbs: &[u8], points: &[f32], tolerance: f32, index: usize) -> SegmentCount
     requires { ⌜ 2 * usedBy (now verbs) ≤ length (now points) ⌝ }
     ensures { λ r. ⌜ r ≡ countAt tolerance nowhere (segments (now (verbs .entry)) (now (points .entry))) index ⌝ }

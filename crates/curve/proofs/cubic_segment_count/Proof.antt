@@ -1,4 +1,6 @@
+use mathlib.Core.Path.{_∙_, ap}
 use borrow.Author.Needs.{needs}
+use Rattle.float.specs.Count.{segmentAnswer}
 use Rattle.curve.proofs.cubic_segment_count.Statement.{statement}
 use Rattle.curve.proofs.cubic_segment_count.Tie as tie
 
@@ -9,7 +11,7 @@ segment-count-requires : tie.Need-segment-count-requires
 segment-count-requires c κs = search needs
 
 returns : tie.Need-returns
-returns c = cc
+returns c = c .segment-count .ensures ∙ ap segmentAnswer (c .before .cubic-s .ensures)
 
 pub cubic-segment-count-spec : {M : Type 1} → statement M
 cubic-segment-count-spec = tie.close (tie.spec cubic-s-requires segment-count-requires returns)

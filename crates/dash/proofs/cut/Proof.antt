@@ -10,7 +10,7 @@ use Rattle.vec2.proofs.Points.{length-flat}
 use Rattle.path.specs.Segment.{segments}
 use Rattle.flatten.specs.Flatten.{pointsOut}
 use Rattle.dash.specs.Ends.{Ordered}
-use Rattle.dash.proofs.Answers.{scratch-full, not-laid, is-laid}
+use Rattle.dash.proofs.Answers.{scratch-full, scratch-kept}
 use Rattle.dash.proofs.Scratch.{Kept, full, kept, ends-ordered}
 use borrow.Author.Needs.{needs}
 use Rattle.dash.proofs.cut.Statement.{statement}
@@ -52,20 +52,20 @@ start-of-requires c κs = search needs
 mul-n : tie.Need-mul-n
 mul-n c = omega (arith, left (c .before .before .before) .room, c .before .before .before .before .before .before .before .before .before .flatten .kept, c .before .before .before .before .before .before .before .before .before .before .before .before .before .before .before .before .before .before .before .before .good)
 
-slice-reshare-prefix-lay-dashes : tie.Need-slice-reshare-prefix-lay-dashes
-slice-reshare-prefix-lay-dashes c = left (c .before .before .before) .room
+slice-reshare-prefix-cut-all : tie.Need-slice-reshare-prefix-cut-all
+slice-reshare-prefix-cut-all c = left (c .before .before .before) .room
 
-slice-aggregate-lay-dashes : tie.Need-slice-aggregate-lay-dashes
-slice-aggregate-lay-dashes c = sym (length-take-le _ _ (left (c .before .before .before .before) .room))
+slice-aggregate-cut-all : tie.Need-slice-aggregate-cut-all
+slice-aggregate-cut-all c = sym (length-take-le _ _ (left (c .before .before .before .before) .room))
 
-slice-reshare-prefix-lay-dashes-2 : tie.Need-slice-reshare-prefix-lay-dashes-2
-slice-reshare-prefix-lay-dashes-2 c = left (c .before .before .before .before) .rooms
+slice-reshare-prefix-cut-all-2 : tie.Need-slice-reshare-prefix-cut-all-2
+slice-reshare-prefix-cut-all-2 c = left (c .before .before .before .before) .rooms
 
-slice-aggregate-lay-dashes-2 : tie.Need-slice-aggregate-lay-dashes-2
-slice-aggregate-lay-dashes-2 c = sym (length-take-le _ _ (left (c .before .before .before .before .before) .rooms))
+slice-aggregate-cut-all-2 : tie.Need-slice-aggregate-cut-all-2
+slice-aggregate-cut-all-2 c = sym (length-take-le _ _ (left (c .before .before .before .before .before) .rooms))
 
-lay-dashes-requires : tie.Need-lay-dashes-requires
-lay-dashes-requires c κs =
+cut-all-requires : tie.Need-cut-all-requires
+cut-all-requires c κs =
     let a = c .before .before .before .before .before .before .before .before .before .before .before .before .before .before .before .before .before .before .before .before .before .before .before .before .args in
     let k = left (c .before .before .before .before .before .before .before) in (
       c .before .before .before .before .before .start-of .ensures .1,
@@ -86,33 +86,12 @@ same-length-6 c = search needs
 
 returns-2 : tie.Need-returns-2
 returns-2 c =
-    let a = c .before .before .before .before .before .before .before .before .before .before .before .before .before .before .before .before .before .before .before .before .before .before .before .before .before .before .before .before .before .before .args in
-    let f = c .before .before .before .before .before .before .before .before .before .before .before .before .before .before .before .before .before .before .before .flatten in
-    let k = left (c .before .before .before .before .before .before .before .before .before .before .before .before .before) in
-    is-laid (now (a .verbs)) (now (a .points)) (a .rule) (now (a .intervals)) (a .phase) (a .tolerance) (now (a .scratch)) (now (a .ends)) (now (a .vs)) (now (a .fs)) (k .fit) _ _ (k .scratch-is) (k .ends-are)
+    let a = c .before .before .before .before .before .before .before .before .before .before .before .before .before .before .before .before .before .before .before .before .before .before .before .before .before .before .before .before .before .args in
+    let f = c .before .before .before .before .before .before .before .before .before .before .before .before .before .before .before .before .before .before .flatten in
+    let k = left (c .before .before .before .before .before .before .before .before .before .before .before .before) in
+    scratch-kept (now (a .verbs)) (now (a .points)) (a .rule) (now (a .intervals)) (a .phase) (a .tolerance) (now (a .scratch)) (now (a .ends)) (now (a .vs)) (now (a .fs)) (k .fit) _ _ (k .scratch-is) (k .ends-are)
     (take (2 * f .result .points) (f .last .1 .1 .1 .0)) (take (f .result .polylines) (f .last .1 .1 .1 .1 .0)) (k .points) (k .polylines)
-    (now (a .cycle)) (c .before .before .before .before .before .before .before .before .before .before .before .before .before .before .before .before .before .before .before .before .before .before .before .before .before .before .before .before .before .before .pre .2) (c .before .before .before .before .before .before .before .before .before .before .before .before .sum-of .result) (c .before .before .before .before .before .before .before .before .before .before .before .before .sum-of .ensures) (c .before .before .before .before .before .before .before .before .before .before .before .start-of .result) (c .before .before .before .before .before .before .before .before .before .before .before .start-of .ensures .0) (c .before .before .before .before .before .lay-dashes .result) _ _ (c .before .before .before .before .before .lay-dashes .ensures) (c .if2 .taken) (f .result) (k .answer)
-
-same-length-7 : tie.Need-same-length-7
-same-length-7 c = search needs
-
-same-length-8 : tie.Need-same-length-8
-same-length-8 c = search needs
-
-same-length-9 : tie.Need-same-length-9
-same-length-9 c = search needs
-
-same-length-10 : tie.Need-same-length-10
-same-length-10 c = search needs
-
-returns-3 : tie.Need-returns-3
-returns-3 c =
-    let a = c .before .before .before .before .before .before .before .before .before .before .before .before .before .before .before .before .before .before .before .before .before .before .before .before .before .before .before .before .before .before .args in
-    let f = c .before .before .before .before .before .before .before .before .before .before .before .before .before .before .before .before .before .before .before .flatten in
-    let k = left (c .before .before .before .before .before .before .before .before .before .before .before .before .before) in
-    not-laid (now (a .verbs)) (now (a .points)) (a .rule) (now (a .intervals)) (a .phase) (a .tolerance) (now (a .scratch)) (now (a .ends)) (now (a .vs)) (now (a .fs)) (k .fit) _ _ (k .scratch-is) (k .ends-are)
-    (take (2 * f .result .points) (f .last .1 .1 .1 .0)) (take (f .result .polylines) (f .last .1 .1 .1 .1 .0)) (k .points) (k .polylines)
-    (now (a .cycle)) (c .before .before .before .before .before .before .before .before .before .before .before .before .before .before .before .before .before .before .before .before .before .before .before .before .before .before .before .before .before .before .pre .2) (c .before .before .before .before .before .before .before .before .before .before .before .before .sum-of .result) (c .before .before .before .before .before .before .before .before .before .before .before .before .sum-of .ensures) (c .before .before .before .before .before .before .before .before .before .before .before .start-of .result) (c .before .before .before .before .before .before .before .before .before .before .before .start-of .ensures .0) (c .before .before .before .before .before .lay-dashes .result) _ _ (c .before .before .before .before .before .lay-dashes .ensures) (c .if2 .left)
+    (now (a .cycle)) (c .before .before .before .before .before .before .before .before .before .before .before .before .before .before .before .before .before .before .before .before .before .before .before .before .before .before .before .before .before .pre .2) (c .before .before .before .before .before .before .before .before .before .before .before .sum-of .result) (c .before .before .before .before .before .before .before .before .before .before .before .sum-of .ensures) (c .before .before .before .before .before .before .before .before .before .before .start-of .result) (c .before .before .before .before .before .before .before .before .before .before .start-of .ensures .0) (f .result .held) (k .held) _ _ _ (c .before .before .before .before .cut-all .ensures)
 
 pub cut-spec : {M : Type 1} → statement M
 cut-spec =
@@ -125,18 +104,13 @@ cut-spec =
     sum-of-requires
     start-of-requires
     mul-n
-    slice-reshare-prefix-lay-dashes
-    slice-aggregate-lay-dashes
-    slice-reshare-prefix-lay-dashes-2
-    slice-aggregate-lay-dashes-2
-    lay-dashes-requires
+    slice-reshare-prefix-cut-all
+    slice-aggregate-cut-all
+    slice-reshare-prefix-cut-all-2
+    slice-aggregate-cut-all-2
+    cut-all-requires
     same-length-3
     same-length-4
     same-length-5
     same-length-6
-    returns-2
-    same-length-7
-    same-length-8
-    same-length-9
-    same-length-10
-    returns-3)
+    returns-2)
