@@ -1,4 +1,6 @@
 //! Asks the library for what a command wants.
+use crate::canvas::Curve;
+use crate::held;
 use crate::options::{Command, Options};
 use crate::order::Order;
 use crate::outline::Outline;
@@ -8,9 +10,9 @@ use hizlaou::{dash_path, flatten, line_style, tolerance_for_scale, Convexity, Da
 
 /// An answer of the library, with what the tool found out beside it.
 pub enum Answer {
-    Flattened(Polylines),
-    Whole { reason: String },
-    Cut { dashes: Path, polylines: Polylines, found: Found },
+    Flattened { polylines: Polylines, held: Vec<Curve> },
+    Whole { reason: String, held: Vec<Curve> },
+    Cut { dashes: Path, polylines: Polylines, found: Found, held: Vec<Curve> },
     Shape(Convexity),
     Box { rect: Rect, is_finite: bool, is_in_range: bool },
 }
@@ -38,25 +40,28 @@ pub fn answer(command: Command, outline: &Outline, order: &Order, progress: &Pro
     match command {
         Command::Flatten => {
             progress.stage("flattening", 0);
-            flatten(path, order.tolerance).map(Answer::Flattened)
+            flatten(path, order.tolerance).map(|polylines| Answer::Flattened { polylines, held: held::find(path, order.tolerance) })
         }
-        Command::Dash | Command::Preview => dashed(path, order, progress),
+        Command::Dash => dashed(path, order, false, progress),
+        Command::Preview => dashed(path, order, true, progress),
         Command::Convexity => Ok(Answer::Shape(path.convexity())),
         Command::Bounds => Ok(Answer::Box { rect: path.bounds(), is_finite: path.is_finite(), is_in_range: path.is_within_tessellation_range() }),
     }
 }
 
-fn dashed(path: &Path, order: &Order, progress: &Progress) -> Result<Answer, Refusal> {
+/// What is drawn whole is not flattened, so nothing of it is held back; only a picture flattens it too (`is_pictured`), to show its points.
+fn dashed(path: &Path, order: &Order, is_pictured: bool, progress: &Progress) -> Result<Answer, Refusal> {
     progress.stage("dashing", 0);
     match dash_path(path, &order.dash, order.tolerance)? {
         Dashed::Whole => {
             let reason = order.reason_for_whole().unwrap_or_else(|| "the library gave no dashes".into());
-            Ok(Answer::Whole { reason })
+            let held = if is_pictured { held::find(path, order.tolerance) } else { Vec::new() };
+            Ok(Answer::Whole { reason, held })
         }
         Dashed::Cut { path: dashes, polylines } => {
             progress.stage("looking for dashes that run on", polylines.totals().points);
             let found = walk::find(&polylines, &order.dash, &order.cycle(), order.period(), &dashes, |n| progress.done(n));
-            Ok(Answer::Cut { dashes, polylines, found })
+            Ok(Answer::Cut { dashes, polylines, found, held: held::find(path, order.tolerance) })
         }
     }
 }
@@ -65,9 +70,17 @@ impl Answer {
     /// How many points are to be written.
     pub fn size(&self, path: &Path) -> usize {
         match self {
-            Answer::Flattened(polylines) => polylines.totals().points,
+            Answer::Flattened { polylines, .. } => polylines.totals().points,
             Answer::Cut { dashes, .. } => dashes.points().len(),
             _ => path.points().len(),
+        }
+    }
+
+    /// The curves that were held back.
+    pub fn held(&self) -> &[Curve] {
+        match self {
+            Answer::Flattened { held, .. } | Answer::Whole { held, .. } | Answer::Cut { held, .. } => held,
+            Answer::Shape(_) | Answer::Box { .. } => &[],
         }
     }
 

@@ -16,13 +16,8 @@ impl Extent {
     pub fn of(path: &Path, polylines: &Polylines) -> Option<Extent> {
         let mut extent = None;
         polylines.points().iter().for_each(|&p| grow(&mut extent, finite(p)));
-        let mut pen = Pen::default();
-        for (verb, points) in path.segments() {
-            let ends: Vec<Vec2> = std::iter::once(pen.at).chain(points.iter().copied()).collect();
-            if let (Verb::QuadTo | Verb::CubicTo, Some(ends)) = (verb, all_finite(&ends)) {
-                (1..16).for_each(|i| grow(&mut extent, Some(on_curve(&ends, f64::from(i) / 16.0))));
-            }
-            pen.follow(verb, points);
+        for points in curves(path).filter_map(|curve| all_finite(&curve.points)) {
+            (1..16).for_each(|i| grow(&mut extent, Some(on_curve(&points, f64::from(i) / 16.0))));
         }
         extent
     }
@@ -68,6 +63,27 @@ impl Pen {
     }
 }
 
+/// A curve of a path.
+#[derive(Debug, Clone, PartialEq)]
+pub struct Curve {
+    /// Its verb's number in the path, from 0.
+    pub index: usize,
+    pub verb: Verb,
+    /// Its start, its control points and its end.
+    pub points: Vec<Vec2>,
+}
+
+/// The curves of a path, first to last.
+pub fn curves(path: &Path) -> impl Iterator<Item = Curve> + '_ {
+    let mut pen = Pen::default();
+    path.segments().enumerate().filter_map(move |(index, (verb, to))| {
+        let from = pen.at;
+        pen.follow(verb, to);
+        let is_curve = matches!(verb, Verb::QuadTo | Verb::CubicTo);
+        is_curve.then(|| Curve { index, verb, points: std::iter::once(from).chain(to.iter().copied()).collect() })
+    })
+}
+
 /// How coordinates become pixels.
 pub struct Fit {
     from: (f64, f64),
@@ -95,6 +111,16 @@ impl Fit {
 
     fn places(&self, points: &[Vec2]) -> Option<Vec<(f64, f64)>> {
         points.iter().map(|&p| self.place(p)).collect()
+    }
+
+    /// A curve as path data; none where a point of it isn't finite.
+    pub fn curve(&self, curve: &Curve) -> Option<String> {
+        let places = self.places(&curve.points)?;
+        let (from, to) = places.split_first()?;
+        let mut data = String::new();
+        push(&mut data, "M", &[*from]);
+        push(&mut data, crate::text::letter(curve.verb), to);
+        Some(data)
     }
 
     /// Polylines as path data.
@@ -221,6 +247,10 @@ mod tests {
         assert_eq!((fit.scale, height), (10.0, 40.0));
         assert_eq!(fit.outline(&path, false), "M10 20Q90 100 170 20L10 20M40 50L50 50");
         assert_eq!(fit.outline(&path, true), "M10 20Q90 100 170 20L10 20");
+        let drawn: Vec<_> = curves(&path).map(|curve| (curve.index, fit.curve(&curve))).collect();
+        assert_eq!(drawn, [(1, Some("M10 20Q90 100 170 20".into()))]);
+        let lost = Curve { index: 1, verb: Verb::QuadTo, points: vec![Vec2::ZERO, Vec2::new(f32::INFINITY, 8.0), Vec2::new(16.0, 0.0)] };
+        assert_eq!(fit.curve(&lost), None);
         assert_eq!(fit.lines(polylines.iter()), "M10 20L170 20L10 20M20 30M40 50L50 50");
         assert_eq!(fit.spacing(&[Vec2::ZERO, Vec2::new(0.0, 1.0), Vec2::new(0.0, 3.0), Vec2::new(0.0, 9.0)], 1), 20.0);
         assert_eq!(fit.spacing(&[], 0), 0.0);

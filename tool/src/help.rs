@@ -19,6 +19,10 @@ A curve as the points that stand for it; more of them if it is shown four times 
   hizlaou flatten -d "M0 0 Q8 8 16 0"
   hizlaou flatten --scale 4 -d "M0 0 Q8 8 16 0"
 
+Shown so large that its curves look faceted, a course says which, here and on the picture:
+
+  hizlaou preview --style 1 --scale 1e6 -o large.svg course.path
+
 Questions about an outline; path data can come from a file, from --data or from standard input:
 
   hizlaou bounds course.path
@@ -69,6 +73,9 @@ LOUD WARNINGS, on standard error and on the picture
                   polyline is one dash. Another phase or pattern avoids it
   A GAP RUNS ON   the same in a gap: nothing more of that polyline is drawn
                   (--refuse-whole lets it pass)
+  FACETED         curves that want more than 1000 pieces are held back there, and look
+                  faceted; each is named by its verb, the first being 0, and its end
+                  (--refuse-whole lets it pass; JSON: held in totals, held_curves)
 
 NUMBERS IN ANSWERS
   The fewest digits that read back, as f32, to the very same float. Minus zero is -0.0.

@@ -1,5 +1,6 @@
 //! Answers as JSON, one object on one line. `number` says how floats are written.
 use crate::answer::Answer;
+use crate::canvas::Curve;
 use crate::number::Json;
 use crate::order::{rule_name, Order};
 use crate::text::{letter, runs_of};
@@ -11,9 +12,9 @@ use std::io::{self, Write};
 /// Writes an answer. `progress` is told how many points are written.
 pub fn write(out: &mut dyn Write, answer: &Answer, path: &Path, order: &Order, progress: impl Fn(usize)) -> io::Result<()> {
     match answer {
-        Answer::Flattened(polylines) => flattened(out, polylines, order, progress)?,
-        Answer::Whole { reason } => whole(out, reason, path, order)?,
-        Answer::Cut { dashes, polylines, found } => cut(out, dashes, polylines, found, order, progress)?,
+        Answer::Flattened { polylines, held } => flattened(out, polylines, held, order, progress)?,
+        Answer::Whole { reason, held } => whole(out, reason, held, path, order)?,
+        Answer::Cut { dashes, polylines, found, held } => cut(out, dashes, polylines, found, held, order, progress)?,
         Answer::Shape(convexity) => shape(out, *convexity, path, order)?,
         Answer::Box { rect, is_finite, is_in_range } => bounds(out, rect, *is_finite, *is_in_range, path, order)?,
     }
@@ -65,16 +66,26 @@ fn lists<'a>(out: &mut dyn Write, lists: impl Iterator<Item = &'a [Vec2]>, progr
     out.write_all(b"]")
 }
 
-fn flattened(out: &mut dyn Write, polylines: &Polylines, order: &Order, progress: impl Fn(usize)) -> io::Result<()> {
+/// The end of the totals: how many curves were held back, and after them which, by their verbs' numbers, where there are some.
+fn held_back(out: &mut dyn Write, held: &[Curve]) -> io::Result<()> {
+    write!(out, ",\"held\":{}}}", held.len())?;
+    if !held.is_empty() {
+        write!(out, ",\"held_curves\":{}", array(held.iter().map(|curve| curve.index)))?;
+    }
+    Ok(())
+}
+
+fn flattened(out: &mut dyn Write, polylines: &Polylines, held: &[Curve], order: &Order, progress: impl Fn(usize)) -> io::Result<()> {
     write!(out, "{{\"command\":\"flatten\",\"tolerance\":{},\"rule\":\"{}\"", Json(order.tolerance), rule_name(order.rule))?;
     out.write_all(b",\"polylines\":")?;
     lists(out, polylines.iter(), progress)?;
     let t = polylines.totals();
     write!(
         out,
-        ",\"totals\":{{\"points\":{},\"polylines\":{},\"starts\":{},\"lines\":{},\"counts\":{},\"closings\":{}}}",
+        ",\"totals\":{{\"points\":{},\"polylines\":{},\"starts\":{},\"lines\":{},\"counts\":{},\"closings\":{}",
         t.points, t.polylines, t.starts, t.lines, t.counts, t.closings
-    )
+    )?;
+    held_back(out, held)
 }
 
 fn ordered(out: &mut dyn Write, order: &Order, kind: &str) -> io::Result<()> {
@@ -90,11 +101,12 @@ fn ordered(out: &mut dyn Write, order: &Order, kind: &str) -> io::Result<()> {
     )
 }
 
+/// A path's totals, to which more can be added: they are not closed.
 fn totals_of(out: &mut dyn Write, path: &Path) -> io::Result<()> {
-    write!(out, ",\"totals\":{{\"verbs\":{},\"points\":{}}}", path.verbs().len(), path.points().len())
+    write!(out, ",\"totals\":{{\"verbs\":{},\"points\":{}", path.verbs().len(), path.points().len())
 }
 
-fn whole(out: &mut dyn Write, reason: &str, path: &Path, order: &Order) -> io::Result<()> {
+fn whole(out: &mut dyn Write, reason: &str, held: &[Curve], path: &Path, order: &Order) -> io::Result<()> {
     ordered(out, order, "whole")?;
     write!(out, ",\"reason\":{},\"outline\":[", string(reason))?;
     for (i, (verb, points)) in path.segments().enumerate() {
@@ -105,10 +117,19 @@ fn whole(out: &mut dyn Write, reason: &str, path: &Path, order: &Order) -> io::R
         out.write_all(b"]")?;
     }
     out.write_all(b"]")?;
-    totals_of(out, path)
+    totals_of(out, path)?;
+    held_back(out, held)
 }
 
-fn cut(out: &mut dyn Write, dashes: &Path, polylines: &Polylines, found: &Found, order: &Order, progress: impl Fn(usize)) -> io::Result<()> {
+fn cut(
+    out: &mut dyn Write,
+    dashes: &Path,
+    polylines: &Polylines,
+    found: &Found,
+    held: &[Curve],
+    order: &Order,
+    progress: impl Fn(usize),
+) -> io::Result<()> {
     ordered(out, order, "cut")?;
     out.write_all(b",\"runs\":")?;
     lists(out, runs(dashes), progress)?;
@@ -117,7 +138,8 @@ fn cut(out: &mut dyn Write, dashes: &Path, polylines: &Polylines, found: &Found,
     write!(out, ",\"run_ons\":{run_ons},\"totals\":{{\"runs\":{},\"verbs\":{}", runs_of(dashes), dashes.verbs().len())?;
     write!(out, ",\"points\":{},\"polylines\":{}", dashes.points().len(), polylines.len())?;
     write!(out, ",\"flattened_points\":{},\"dashes_running_on\":{dashes_on}", polylines.totals().points)?;
-    write!(out, ",\"gaps_running_on\":{}}}", found.run_ons.len() - dashes_on)
+    write!(out, ",\"gaps_running_on\":{}", found.run_ons.len() - dashes_on)?;
+    held_back(out, held)
 }
 
 /// The points of each run. Every verb of dashes uses one point, and a move begins a run.
@@ -147,14 +169,16 @@ fn run_on(r: &RunOn) -> String {
 
 fn shape(out: &mut dyn Write, convexity: Convexity, path: &Path, order: &Order) -> io::Result<()> {
     write!(out, "{{\"command\":\"convexity\",\"rule\":\"{}\",\"convexity\":\"{convexity:?}\"", rule_name(order.rule))?;
-    totals_of(out, path)
+    totals_of(out, path)?;
+    out.write_all(b"}")
 }
 
 fn bounds(out: &mut dyn Write, rect: &Rect, is_finite: bool, is_in_range: bool, path: &Path, order: &Order) -> io::Result<()> {
     write!(out, "{{\"command\":\"bounds\",\"rule\":\"{}\",\"min\":{},\"max\":{}", rule_name(order.rule), point(rect.min), point(rect.max))?;
     write!(out, ",\"width\":{},\"height\":{},\"empty\":{}", Json(rect.width()), Json(rect.height()), rect.is_empty())?;
     write!(out, ",\"finite\":{is_finite},\"in_range\":{is_in_range}")?;
-    totals_of(out, path)
+    totals_of(out, path)?;
+    out.write_all(b"}")
 }
 
 #[cfg(test)]

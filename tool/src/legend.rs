@@ -1,9 +1,10 @@
 //! The legend below a picture: what each mark is and how many there are, and the order in numbers.
 use crate::answer::Answer;
 use crate::canvas::{px, Fit};
+use crate::held;
 use crate::number::{count, Exact};
 use crate::order::rule_name;
-use crate::picture::{xml, Scene, MARGIN, WIDTH};
+use crate::picture::{xml, Scene, HELD, MARGIN, MOST_MARKS, WIDTH};
 use crate::text::runs_of;
 use std::fmt::Write;
 
@@ -68,6 +69,7 @@ fn marks(scene: &Scene) -> Vec<(String, String)> {
     if gaps > 0 {
         rows.push((ring("#8a5a00"), format!("{} where a gap runs on to the end", count(gaps, "place"))));
     }
+    rows.extend(held::in_words(scene.answer.held()).map(|words| (line(HELD, "20", ""), words)));
     rows
 }
 
@@ -97,6 +99,10 @@ fn notes(scene: &Scene, fit: &Fit) -> Vec<String> {
     let lost = scene.polylines.points().iter().filter(|p| !(p.x.is_finite() && p.y.is_finite())).count();
     if lost > 0 {
         notes.push(format!("Not shown: {} with a coordinate that is not finite.", count(lost, "flattened point")));
+    }
+    let unmarked = scene.answer.held().len() - scene.held_bands(fit).len();
+    if unmarked > 0 {
+        notes.push(format!("Not marked: {} held back, not finite or after the first {MOST_MARKS}.", count(unmarked, "curve")));
     }
     if scene.dot_step > 1 {
         notes.push(format!("Of every {} flattened points one is shown.", scene.dot_step));

@@ -1,6 +1,7 @@
 //! hizlaou: see what a unit will put to air, before it does. `help` has the manual.
 mod answer;
 mod canvas;
+mod held;
 mod help;
 mod json;
 mod legend;
@@ -108,7 +109,7 @@ fn read(options: &Options, progress: &Progress) -> Result<(Source, Outline), Fai
 fn warn(answer: &Answer) {
     for warning in warnings::warnings(answer) {
         tell(format!("WARNING: {}", warning.headline));
-        tell(format!("         {}", warning.reason));
+        warning.reason.lines().for_each(|line| tell(format!("         {line}")));
     }
 }
 

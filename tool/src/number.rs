@@ -2,6 +2,7 @@
 //!
 //! Plain notation from 0.00001 up to 10^16, with an exponent outside; minus zero is `-0.0`. `NaN`, `Infinity` and `-Infinity` are words, and in JSON,
 //! which has no such numbers, strings. The bits of a NaN are not shown.
+use hizlaou::Vec2;
 use std::fmt;
 
 /// A float as text shows it.
@@ -41,6 +42,11 @@ impl fmt::Display for Json {
 pub fn list(values: &[f32]) -> String {
     let words: Vec<String> = values.iter().map(|&v| Exact(v).to_string()).collect();
     words.join(" ")
+}
+
+/// A point as messages show it.
+pub fn place(p: Vec2) -> String {
+    format!("({} {})", Exact(p.x), Exact(p.y))
 }
 
 /// A number of things: `1 run`, `2 runs`.

@@ -1,6 +1,7 @@
 //! The preview: outline, runs, flattened points and corners, under loud warnings and over a legend.
 use crate::answer::Answer;
-use crate::canvas::{px, Extent, Fit};
+use crate::canvas::{px, Curve, Extent, Fit};
+use crate::held::which;
 use crate::json::runs;
 use crate::legend;
 use crate::order::{rule_name, Order};
@@ -12,12 +13,16 @@ use std::fmt::Write;
 
 pub const WIDTH: f64 = 960.0;
 pub const MARGIN: f64 = 24.0;
+/// The colour of the band behind a curve that is held back: no line, point or ring has it.
+pub const HELD: &str = "#d3a6f5";
 /// Room inside the panel, so that buoys at its edge stay whole.
 const PADDING: f64 = 30.0;
 /// The most flattened points and marks that are drawn: more would only blacken the picture.
 const MOST_DOTS: usize = 20_000;
-const MOST_MARKS: usize = 1_000;
+pub const MOST_MARKS: usize = 1_000;
 const MOST_BANNERS: usize = 3;
+/// The most places that a bar has room for.
+const MOST_PLACES: usize = 2;
 
 /// All that a picture shows.
 pub struct Scene<'a> {
@@ -37,6 +42,11 @@ impl Scene<'_> {
             Answer::Cut { found, .. } if found.agrees => &found.run_ons,
             _ => &[],
         }
+    }
+
+    /// The curves held back that the picture can show, each with its path data.
+    pub fn held_bands(&self, fit: &Fit) -> Vec<(&Curve, String)> {
+        self.answer.held().iter().take(MOST_MARKS).filter_map(|curve| Some((curve, fit.curve(curve)?))).collect()
     }
 }
 
@@ -106,7 +116,17 @@ fn banner(body: &mut String, warning: &Warning, y: f64) {
     let _ = writeln!(body, "<rect x=\"{MARGIN}\" y=\"{y}\" width=\"{wide}\" height=\"60\" rx=\"6\" fill=\"{color}\"/>");
     let (x, first, second) = (MARGIN + 16.0, y + 26.0, y + 48.0);
     let _ = writeln!(body, "<text x=\"{x}\" y=\"{first}\" font-size=\"20\" font-weight=\"bold\">{}</text>", xml(&warning.headline));
-    let _ = writeln!(body, "<text x=\"{x}\" y=\"{second}\">{}</text>\n</g>", xml(&legend::short(&warning.reason, 118)));
+    let _ = writeln!(body, "<text x=\"{x}\" y=\"{second}\">{}</text>\n</g>", xml(&legend::short(&in_one_line(&warning.reason), 118)));
+}
+
+/// A reason's first lines as one.
+fn in_one_line(reason: &str) -> String {
+    let mut lines: Vec<&str> = reason.lines().collect();
+    if lines.len() > MOST_PLACES {
+        lines.truncate(MOST_PLACES);
+        lines.push("more on standard error");
+    }
+    lines.join("; ")
 }
 
 fn panel(body: &mut String, y: f64, height: f64) {
@@ -115,7 +135,7 @@ fn panel(body: &mut String, y: f64, height: f64) {
     let _ = writeln!(body, "<rect x=\"{MARGIN}\" y=\"{y}\" width=\"{wide}\" height=\"{height}\" rx=\"6\" fill=\"#fff\" stroke=\"#c3ced8\"/>");
 }
 
-/// The drawing itself, from the ground up: fill, outline, runs, what runs on, points, corners, marks.
+/// The drawing itself, from the ground up: fill, curves held back, outline, runs, what runs on, points, corners, marks.
 fn geometry(body: &mut String, scene: &Scene, fit: &Fit) {
     let path = &scene.outline.path;
     let filled = fit.outline(path, true);
@@ -123,6 +143,7 @@ fn geometry(body: &mut String, scene: &Scene, fit: &Fit) {
         let rule = rule_name(scene.order.rule);
         let _ = writeln!(body, "<path class=\"fill\" d=\"{filled}\" fill=\"#dcebf7\" fill-rule=\"{rule}\"/>");
     }
+    held_back(body, scene, fit);
     let line = fit.outline(path, false);
     match scene.answer {
         Answer::Cut { dashes, .. } => {
@@ -140,6 +161,14 @@ fn geometry(body: &mut String, scene: &Scene, fit: &Fit) {
     dots(body, "corners", &corners, "#1b2733", "13");
     dots(body, "corners", &corners, "#f28c28", "10");
     marks(body, scene, fit);
+}
+
+/// A wide band behind each curve that is held back, so that it hides nothing. A browser says which curve it is where the pointer rests on it.
+fn held_back(body: &mut String, scene: &Scene, fit: &Fit) {
+    for (curve, data) in scene.held_bands(fit) {
+        let _ = write!(body, "<path class=\"held\" d=\"{data}\" fill=\"none\" stroke=\"{HELD}\" stroke-width=\"20\" stroke-linecap=\"round\">");
+        let _ = writeln!(body, "<title>{}</title></path>", xml(&which(curve)));
+    }
 }
 
 fn stroke(body: &mut String, class: &str, data: &str, color: &str, width: &str) {

@@ -1,5 +1,7 @@
 //! Answers as text for people.
 use crate::answer::Answer;
+use crate::canvas::Curve;
+use crate::held;
 use crate::number::{count, Exact};
 use crate::order::{rule_name, Order};
 use crate::walk::Found;
@@ -9,19 +11,19 @@ use std::io::{self, Write};
 /// Writes an answer. `progress` is told how many points are written.
 pub fn write(out: &mut dyn Write, answer: &Answer, path: &Path, order: &Order, progress: impl Fn(usize)) -> io::Result<()> {
     match answer {
-        Answer::Flattened(polylines) => {
+        Answer::Flattened { polylines, held } => {
             writeln!(out, "tolerance {}, rule {}", order.tolerance_in_words(), rule_name(order.rule))?;
-            flattened(out, polylines, progress)
+            flattened(out, polylines, held, progress)
         }
-        Answer::Whole { reason } => {
+        Answer::Whole { reason, .. } => {
             ordered(out, order)?;
             writeln!(out, "drawn whole: {reason}")?;
             outline(out, path)?;
             totals_of(out, path)
         }
-        Answer::Cut { dashes, polylines, found } => {
+        Answer::Cut { dashes, polylines, found, held } => {
             ordered(out, order)?;
-            cut(out, dashes, polylines, found, progress)
+            cut(out, dashes, polylines, found, held, progress)
         }
         Answer::Shape(convexity) => shape(out, *convexity, path),
         Answer::Box { rect, is_finite, is_in_range } => bounds(out, rect, *is_finite, *is_in_range, path),
@@ -32,7 +34,12 @@ fn point(out: &mut dyn Write, p: Vec2) -> io::Result<()> {
     writeln!(out, "  {} {}", Exact(p.x), Exact(p.y))
 }
 
-fn flattened(out: &mut dyn Write, polylines: &Polylines, progress: impl Fn(usize)) -> io::Result<()> {
+/// The end of the totals: the curves held back, where there are some.
+fn held_back(held: &[Curve]) -> String {
+    held::in_words(held).map_or(String::new(), |words| format!("; {words}"))
+}
+
+fn flattened(out: &mut dyn Write, polylines: &Polylines, held: &[Curve], progress: impl Fn(usize)) -> io::Result<()> {
     let mut done = 0;
     for (number, points) in polylines.iter().enumerate() {
         writeln!(out, "polyline {}: {}", number + 1, count(points.len(), "point"))?;
@@ -45,13 +52,14 @@ fn flattened(out: &mut dyn Write, polylines: &Polylines, progress: impl Fn(usize
     let t = polylines.totals();
     writeln!(
         out,
-        "totals: {} in {} = {} + {} + {} of curves + {}",
+        "totals: {} in {} = {} + {} + {} of curves + {}{}",
         count(t.points, "point"),
         count(t.polylines, "polyline"),
         count(t.starts, "start"),
         count(t.lines, "line"),
         count(t.counts, "piece"),
-        count(t.closings, "added closing")
+        count(t.closings, "added closing"),
+        held_back(held)
     )
 }
 
@@ -99,7 +107,7 @@ pub fn runs_of(dashes: &Path) -> usize {
     dashes.verbs().iter().filter(|v| **v == Verb::MoveTo).count()
 }
 
-fn cut(out: &mut dyn Write, dashes: &Path, polylines: &Polylines, found: &Found, progress: impl Fn(usize)) -> io::Result<()> {
+fn cut(out: &mut dyn Write, dashes: &Path, polylines: &Polylines, found: &Found, held: &[Curve], progress: impl Fn(usize)) -> io::Result<()> {
     let mut number = 0;
     for (i, (verb, points)) in dashes.segments().enumerate() {
         if verb == Verb::MoveTo {
@@ -112,7 +120,7 @@ fn cut(out: &mut dyn Write, dashes: &Path, polylines: &Polylines, found: &Found,
     let running_on = found.run_ons.iter().filter(|r| r.is_dash).count();
     writeln!(
         out,
-        "totals: {}, {}, {}, from {} in {}; {}, {}",
+        "totals: {}, {}, {}, from {} in {}; {}, {}{}",
         count(number, "run"),
         count(dashes.verbs().len(), "verb"),
         count(dashes.points().len(), "point"),
@@ -122,7 +130,8 @@ fn cut(out: &mut dyn Write, dashes: &Path, polylines: &Polylines, found: &Found,
         match found.run_ons.len() - running_on {
             1 => "1 gap runs on".into(),
             gaps => format!("{gaps} gaps run on"),
-        }
+        },
+        held_back(held)
     )
 }
 

@@ -1,15 +1,18 @@
-//! The loud warnings: drawn whole, a dash or a gap that runs on.
+//! The loud warnings: drawn whole, a dash or a gap that runs on, curves that look faceted.
 use crate::answer::Answer;
-use crate::number::Exact;
+use crate::canvas::Curve;
+use crate::held::{in_words, which};
+use crate::number::{count, place, Exact};
 use crate::walk::{Place, RunOn};
 
-/// The most run-ons that are told one by one.
+/// The most run-ons, and the most curves held back, that are told one by one.
 const MOST: usize = 10;
 
 /// A warning: what happens, and why.
 #[derive(Debug, Clone, PartialEq)]
 pub struct Warning {
     pub headline: String,
+    /// In one line, or a line for each place.
     pub reason: String,
     /// Nothing breaks the line: what `--refuse-whole` is for.
     pub is_barrier: bool,
@@ -17,8 +20,15 @@ pub struct Warning {
 
 /// The warnings of an answer, the worst first.
 pub fn warnings(answer: &Answer) -> Vec<Warning> {
+    let mut list = unbroken(answer);
+    list.extend(faceted(answer.held()));
+    list
+}
+
+/// What goes to air without gaps, or not at all.
+fn unbroken(answer: &Answer) -> Vec<Warning> {
     match answer {
-        Answer::Whole { reason } => {
+        Answer::Whole { reason, .. } => {
             let headline = "DRAWN WHOLE: the lane goes to air as one unbroken line".into();
             vec![Warning { headline, reason: reason.clone(), is_barrier: true }]
         }
@@ -46,24 +56,33 @@ fn told(headline: &str, run_ons: &[&RunOn], is_barrier: bool) -> Vec<Warning> {
     list
 }
 
+/// The curves held back, in one warning: a conic alone can have 64 of them.
+fn faceted(held: &[Curve]) -> Option<Warning> {
+    let headline = format!("FACETED: {}, too few for the tolerance", in_words(held)?);
+    let mut lines: Vec<String> = held.iter().take(MOST).map(which).collect();
+    if held.len() > MOST {
+        lines.push(format!("and {}", count(held.len() - MOST, "more curve")));
+    }
+    Some(Warning { headline, reason: lines.join("\n"), is_barrier: false })
+}
+
 fn where_and_why(run_on: &RunOn) -> String {
-    let at = format!("({} {})", Exact(run_on.at.x), Exact(run_on.at.y));
-    let (place, why) = match run_on.place {
+    let (from, why) = match run_on.place {
         Place::Corner => ("from the corner", "the interval is used up exactly there and never ends"),
         Place::Start => ("from the start", "nothing is left of the interval that it starts in, so it never ends"),
         Place::Inside => ("from", "the interval is too short to move on and never ends"),
     };
-    format!("polyline {}, {place} {at} on, {} long: {why}", run_on.polyline + 1, Exact(run_on.length as f32))
+    format!("polyline {}, {from} {} on, {} long: {why}", run_on.polyline + 1, place(run_on.at), Exact(run_on.length as f32))
 }
 
 #[cfg(test)]
 mod tests {
     use super::*;
     use crate::walk::Found;
-    use hizlaou::{flatten, PathBuilder, Polylines, Vec2};
+    use hizlaou::{flatten, PathBuilder, Polylines, Vec2, Verb};
 
     fn cut(found: Found) -> Answer {
-        Answer::Cut { dashes: PathBuilder::new().build(), polylines: Polylines::default(), found }
+        Answer::Cut { dashes: PathBuilder::new().build(), polylines: Polylines::default(), found, held: Vec::new() }
     }
 
     #[test]
@@ -74,6 +93,18 @@ mod tests {
         assert_eq!(list[0].reason, "polyline 1, from (0 0) on, 2.5 long: the interval is too short to move on and never ends");
         assert_eq!(list[10].reason, "and 2 more places");
         assert!(list[11].headline.starts_with("A GAP RUNS ON"));
+    }
+
+    #[test]
+    fn curves_held_back_are_one_warning_and_many_are_counted() {
+        let curve = |index| Curve { index, verb: Verb::QuadTo, points: vec![Vec2::ZERO, Vec2::new(8.0, 8.0), Vec2::new(16.0, index as f32)] };
+        let flattened = |number| Answer::Flattened { polylines: Polylines::default(), held: (1..=number).map(curve).collect() };
+        assert_eq!(warnings(&flattened(0)), []);
+        let [ten, twelve] = [10, 12].map(|number| warnings(&flattened(number)));
+        assert_eq!((ten.len(), ten[0].reason.lines().count(), ten[0].reason.lines().last()), (1, 10, Some("verb 10, the quad to (16 10)")));
+        assert_eq!((twelve.len(), twelve[0].reason.lines().count(), twelve[0].reason.lines().last()), (1, 11, Some("and 2 more curves")));
+        assert_eq!(twelve[0].headline, "FACETED: 12 curves held back at 1000 pieces, too few for the tolerance");
+        assert!(!twelve[0].is_barrier);
     }
 
     #[test]

@@ -1,7 +1,7 @@
 //! The JSON is JSON, and its floats read back to the library's, bit for bit.
 mod common;
 use common::run;
-use hizlaou::{flatten, Path, PathBuilder, Vec2};
+use hizlaou::{flatten, held_curves, Path, PathBuilder, Vec2};
 
 /// A small reader of JSON: as much as the tool writes.
 #[derive(Debug, PartialEq)]
@@ -139,6 +139,42 @@ fn a_whole_outline_has_its_reason() {
     let outline = list(get(&answer, "outline"));
     assert_eq!(outline[1], read("[\"Q\",1,2,3,4]\n"));
     assert_eq!(outline.len(), 3);
+}
+
+/// A quad, a line, and a conic of eight quads, of which the first two and the last two bend the most.
+fn quad_and_conic() -> (&'static str, Path) {
+    let mut b = PathBuilder::new();
+    b.move_to(Vec2::ZERO).unwrap().quad_to(Vec2::new(8.0, 8.0), Vec2::new(16.0, 0.0)).unwrap().line_to(Vec2::new(100.0, 0.0)).unwrap();
+    b.conic_to(Vec2::new(100.0, 100.0), Vec2::new(0.0, 100.0), 2.0).unwrap();
+    ("M0 0Q8 8 16 0H100K100 100 0 100 2", b.build())
+}
+
+#[test]
+fn curves_held_back_are_counted_and_listed() {
+    let (data, path) = quad_and_conic();
+    let held = held_curves(&path, 1e-6);
+    assert_eq!(held, [1, 3, 4, 9, 10]);
+    assert_eq!(held.len(), flatten(&path, 1e-6).unwrap().totals().held);
+    for command in [&["flatten"][..], &["dash", "--style", "1"]] {
+        let answer = read(&run(&[command, &["--json", "--tolerance", "1e-6", "-d", data]].concat()).out);
+        assert_eq!(get(get(&answer, "totals"), "held"), &Value::Word(held.len().to_string()));
+        let verbs: Vec<f32> = list(get(&answer, "held_curves")).iter().map(float).collect();
+        assert_eq!(verbs, held.iter().map(|&verb| verb as f32).collect::<Vec<_>>());
+    }
+}
+
+#[test]
+fn where_no_curve_is_held_back_only_the_total_says_so() {
+    let (data, _) = quad_and_conic();
+    let whole = ["dash", "--style", "0", "--tolerance", "1e-6"];
+    for command in [&["flatten"][..], &["dash", "--style", "1"], &whole] {
+        let ran = run(&[command, &["--json", "-d", data]].concat());
+        assert_eq!(get(get(&read(&ran.out), "totals"), "held"), &Value::Word("0".into()));
+        assert!(!ran.out.contains("held_curves"), "{command:?}");
+    }
+    for command in ["convexity", "bounds"] {
+        assert!(!run(&[command, "--json", "--tolerance", "1e-6", "-d", data]).out.contains("held"), "{command}");
+    }
 }
 
 #[test]

@@ -164,7 +164,7 @@ fn progress_is_told_after_a_second() {
 #[test]
 fn a_reader_that_goes_away_is_no_panic() {
     let mut child = tool()
-        .args(["flatten", "--tolerance", "0", "-d", &"M0 0Q8 8 16 0".repeat(400)])
+        .args(["flatten", "--tolerance", "1e-5", "-d", &"M0 0Q8 8 16 0".repeat(400)])
         .stdout(Stdio::piped())
         .stderr(Stdio::piped())
         .spawn()
