@@ -1,4 +1,5 @@
-/* Writes the list that the program `roots` runs: a line for each operand with its bits, the bits of its square root and its segment count.
+/* Writes the list that the program `roots` runs: a line for each operand with its bits, the bits of its square root and its segment count, 8000
+   (hexadecimal) added where it was held back.
    The root is the machine's own (sqrtss); a root that is a NaN is written as 7fc00000. Made by: cc -O1 -msse2 -o roots tools/roots.c -lm && ./roots > crates/roots/stdin */
 #include <math.h>
 #include <stdint.h>
@@ -17,9 +18,12 @@ static unsigned count(float s) {
     return c < 1.0f ? 1 : c > 1000.0f ? 1000 : (unsigned)c;
 }
 
+/* infinite, or above zero with the rounded root over 1,000 */
+static unsigned held(float s) { return s > 0.0f && (isinf(s) || root(s) > 1000.0f); }
+
 static void line(uint32_t b) {
     float x = from_bits(b), r = root(x);
-    printf("%08x %08x %04x\n", b, isnan(r) ? 0x7fc00000u : to_bits(r), count(x));
+    printf("%08x %08x %04x\n", b, isnan(r) ? 0x7fc00000u : to_bits(r), count(x) + 0x8000u * held(x));
 }
 
 static uint32_t spread(uint32_t *s) { *s ^= *s << 13; *s ^= *s >> 17; *s ^= *s << 5; return *s; }

@@ -36,6 +36,7 @@ fn equal(a: &[f32], b: &[f32]) -> bool {
     true
 }
 
+// The totals, where no curve is held back.
 fn totals(
     r: Flattened,
     polylines: usize,
@@ -45,7 +46,7 @@ fn totals(
     closings: usize,
 ) -> bool {
     let first = r.polylines == polylines && r.starts == starts && r.lines == lines;
-    first && r.counts == counts && r.closings == closings && r.refused == 0
+    first && r.counts == counts && r.closings == closings && r.held == 0 && r.refused == 0
 }
 
 // ---- what is written
@@ -171,6 +172,54 @@ fn middles() -> bool {
     let q = curve::eval_quad(o, Vec2::new(8.0, 8.0), across, 0.5);
     let c = curve::eval_cubic(o, Vec2::new(0.0, 8.0), Vec2::new(16.0, 8.0), across, 0.5);
     q.x == 8.0 && q.y == 4.0 && c.x == 8.0 && c.y == 6.0
+}
+
+// ---- held back
+
+// Two quads of 1,000 lines each: of the first no more are wanted, the second is held back.
+fn held_back() -> bool {
+    let points: [f32; 10] = [0.0, 0.0, 0.0, 0.0, 1.0, 0.0, 1.0, 0.0, 3.0, 0.0];
+    let mut out = [7.0f32; 4002];
+    let mut ends = [99usize; 1];
+    let r = flatten::flatten(&[0, 2, 2], &points, 3.539e-7, &mut out, &mut ends);
+    r.counts == 2000 && r.held == 1 && r.refused == 0 && ends[0] == 2001
+}
+
+// One point short: nothing is said of it.
+fn held_and_refused() -> bool {
+    let points: [f32; 10] = [0.0, 0.0, 0.0, 0.0, 1.0, 0.0, 1.0, 0.0, 3.0, 0.0];
+    let mut out = [7.0f32; 4000];
+    let mut ends = [99usize; 1];
+    let r = flatten::flatten(&[0, 2, 2], &points, 3.539e-7, &mut out, &mut ends);
+    r.counts == 0 && r.held == 0 && r.refused == 3 && ends[0] == 99
+}
+
+// Which curve it is, asked verb by verb; no other is.
+fn held_at() -> bool {
+    let points: [f32; 10] = [0.0, 0.0, 0.0, 0.0, 1.0, 0.0, 1.0, 0.0, 3.0, 0.0];
+    let start = flatten::carried_count(&[0, 2, 2], &points, 3.539e-7, 0);
+    let full = flatten::carried_count(&[0, 2, 2], &points, 3.539e-7, 1);
+    let held = flatten::carried_count(&[0, 2, 2], &points, 3.539e-7, 2);
+    let past = flatten::carried_count(&[0, 2, 2], &points, 3.539e-7, 3);
+    let bad = flatten::carried_count(&[0, 2, 5], &points, 3.539e-7, 2);
+    let counted = full.count == 1000 && held.count == 1000 && held.held && !full.held;
+    counted && !start.held && !past.held && !bad.held && bad.refused == 5
+}
+
+// An infinite s, and a cubic of which the second difference alone asks for more; −∞ is no length, and a NaN none either.
+fn held_curves() -> bool {
+    let o = Vec2::zero();
+    let one = Vec2::new(1.0, 0.0);
+    let two = Vec2::new(2.0, 0.0);
+    let endless = curve::quad_segment_count(o, one, Vec2::new(1.0 / 0.0, 0.0), 0.25);
+    let behind = curve::cubic_segment_count(o, one, two, Vec2::new(1.0e6, 0.0), 0.25);
+    let before = curve::cubic_segment_count(Vec2::new(1.0e6, 0.0), two, one, o, 0.25);
+    let below = float::segment_count(-1.0 / 0.0);
+    let lost = float::segment_count(0.0 / 0.0);
+    let exact = float::segment_count(1000000.0);
+    let next = float::segment_count(1000000.06);
+    let held = endless.held && behind.held && before.held && next.held;
+    held && !below.held && !lost.held && !exact.held && exact.count == 1000 && next.count == 1000
 }
 
 // ---- closing
@@ -338,6 +387,13 @@ fn main() {
     say(cubic_of_nine(), b"cubic of nine lines");
     say(counts(), b"carried counts 5, 1, 9, none");
     say(odd_counts(), b"counts of NaN, no tolerance and too far");
+    say(held_back(), b"one of two curves held back");
+    say(held_and_refused(), b"none held back in a refusal");
+    say(held_at(), b"the verb of a curve that is held back");
+    say(
+        held_curves(),
+        b"held back: infinite, by either difference, past 1,000,000",
+    );
     say(scales(), b"tolerance for a scale");
     say(middles(), b"middles of curves");
     say(closed_by_value(), b"closing by value");

@@ -1,5 +1,6 @@
 // Runs the root and the segment count over the list on standard input: a line for each operand with its bits, those of its root, and its count,
-// all in hexadecimal. tools/roots.c makes the list with the machine's own square root. A line that differs is written out.
+// all in hexadecimal; 8000 is added to a count that was held back. tools/roots.c makes the list with the machine's own square root. A line that
+// differs is written out.
 ghost use Prim.Native.Nat.{_≤_, _<_};
 
 // A line: 8, 8 and 4 digits, with a space behind each number but the last.
@@ -49,19 +50,22 @@ fn has_pattern(x: f32, b: u32) -> bool {
     f32::to_bits(x) == b
 }
 
-// Whether a line's root and count are those that the library gives.
+// Whether a line's root, its count and whether that was held back are what the library gives.
 struct Found {
     root: bool,
     count: bool,
+    held: bool,
 }
 
 fn compare(text: &[u8; 23]) -> Found {
     let x = float_of(number(text, 0, 8));
     let root = number(text, 9, 17);
-    let count = number(text, 18, 22);
+    let told = number(text, 18, 22);
+    let n = float::segment_count(x);
     Found {
         root: has_pattern(float::sqrt(x), root),
-        count: float::segment_count(x).count == count,
+        count: n.count == told % 0x8000,
+        held: n.held == (0x8000 <= told),
     }
 }
 
@@ -81,6 +85,7 @@ fn main() {
     let mut lines: u64 = 0;
     let mut roots: u64 = 0;
     let mut counts: u64 = 0;
+    let mut held: u64 = 0;
     while lines < 1000000 {
         if io::read_full(0, &mut text) != LINE {
             break;
@@ -89,11 +94,13 @@ fn main() {
         lines += 1;
         roots += one(found.root);
         counts += one(found.count);
-        if !(found.root && found.count) {
+        held += one(found.held);
+        if !(found.root && found.count && found.held) {
             io::write_all(1, &text);
         }
     }
     say(lines, b" operands\n");
     say(roots, b" roots as the machine's\n");
     say(counts, b" segment counts as the source's\n");
+    say(held, b" held back or not, as the request has it\n");
 }

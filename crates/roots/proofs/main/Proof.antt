@@ -7,10 +7,10 @@ use Rattle.roots.proofs.main.Statement.{statement}
 use Rattle.roots.proofs.main.Tie as tie
 
 abbrev Inv-loop : tie.InvT-loop
-Inv-loop text₀ lines₀ roots₀ counts₀ t6 t7 t8 text lines roots counts = (length text ≡ 23) × (lines ≤ 1000000) × (roots ≤ lines) × (counts ≤ lines)
+Inv-loop text₀ lines₀ roots₀ counts₀ held₀ t7 t8 t9 t10 text lines roots counts held = (length text ≡ 23) × (lines ≤ 1000000) × (roots ≤ lines) × (counts ≤ lines) × (held ≤ lines)
 
 abbrev μ-loop : tie.MeasureT-loop
-μ-loop text₀ lines₀ roots₀ counts₀ t6 t7 t8 text lines roots counts = 1000000 - lines
+μ-loop text₀ lines₀ roots₀ counts₀ held₀ t7 t8 t9 t10 text lines roots counts held = 1000000 - lines
 
 loop-holds : tie.Need-loop-holds Inv-loop μ-loop
 loop-holds c = search needs
@@ -38,6 +38,12 @@ one-requires-2 c κs = search needs
 
 add-counts : tie.Need-add-counts Inv-loop μ-loop
 add-counts c = search needs
+
+one-requires-3 : tie.Need-one-requires-3 Inv-loop μ-loop
+one-requires-3 c κs = search needs
+
+add-held : tie.Need-add-held Inv-loop μ-loop
+add-held c = search needs
 
 slice-aggregate-write-all : tie.Need-slice-aggregate-write-all Inv-loop μ-loop
 slice-aggregate-write-all c = search needs
@@ -75,6 +81,12 @@ slice-aggregate-say-3 c = search needs
 say-requires-3 : tie.Need-say-requires-3 Inv-loop μ-loop
 say-requires-3 c κs = search needs
 
+slice-aggregate-say-4 : tie.Need-slice-aggregate-say-4 Inv-loop μ-loop
+slice-aggregate-say-4 c = search needs
+
+say-requires-4 : tie.Need-say-requires-4 Inv-loop μ-loop
+say-requires-4 c κs = search needs
+
 returns : tie.Need-returns Inv-loop μ-loop
 returns c = search needs
 
@@ -93,6 +105,8 @@ main-spec =
     add-roots
     one-requires-2
     add-counts
+    one-requires-3
+    add-held
     slice-aggregate-write-all
     write-all-requires
     loop-less
@@ -105,4 +119,6 @@ main-spec =
     say-requires-2
     slice-aggregate-say-3
     say-requires-3
+    slice-aggregate-say-4
+    say-requires-4
     returns)
