@@ -109,154 +109,210 @@ fn like(x: f32) -> usize {
     }
 }
 
-/// The case with its answers, and what it shows. None where the program's buffers or the reference's time do not suffice.
-fn answered(c: &Case, most: usize) -> Option<(Vec<u32>, Vec<String>)> {
-    let mut shows = Vec::new();
-    let mut w = Words::default();
-    [c.tolerance, c.phase, c.scale].iter().for_each(|x| w.f(*x));
-    w.n(c.intervals.len());
-    c.intervals.iter().for_each(|x| w.f(*x));
-    w.n(c.calls.len());
-    c.calls.iter().for_each(|c| w.0.extend(call_words(c)));
-    let mut b = PathBuilder::new();
-    let mut last = 9;
-    for call in &c.calls {
-        let before = b.clone().build();
-        b = apply(b, call);
-        let laid = b.clone().build().verbs()[before.verbs().len()..].to_vec();
-        let kind = call_words(call)[0] as usize;
-        let quads = if kind == 5 { laid.iter().filter(|v| **v == Verb::QuadTo).count() } else { 0 };
-        w.n(quads);
-        w.n(0);
-        shows.push(format!("call {kind} behind {last} empty {}", before.verbs().is_empty()));
-        match *call {
-            Call::Conic(c, p, weight) => {
-                let finite = |p: [f32; 2]| p[0].is_finite() && p[1].is_finite();
-                shows.push(format!("conic {quads} weight {} {} {} {}", like(weight), weight > 0.0, finite(c), finite(p)));
-                shows.push(format!("conic near one {} {quads}", (weight - 1.0).abs() <= 1e-3));
-            }
-            Call::Note(lo, hi, r) => shows.push(format!("note {} {} {} {}", like(lo[0]), like(hi[1]), like(r), r.is_sign_negative())),
-            _ => (),
-        }
-        last = kind;
+/// The answers to one case, and what they show.
+#[derive(Default)]
+struct Answers {
+    words: Words,
+    shows: Vec<String>,
+}
+
+/// A flattened path: its polylines, and for each verb its curve's N.
+struct Flat {
+    polylines: Vec<Vec<Vec2>>,
+    each: Vec<usize>,
+}
+
+impl Flat {
+    fn points(&self) -> Vec<Vec2> {
+        self.polylines.iter().flatten().copied().collect()
     }
-    let (pen, path) = (b.current_point(), b.clone().build());
-    w.verbs(path.verbs());
-    w.points(path.points());
-    w.n(usize::from(pen.is_some()));
-    pen.iter().for_each(|p| w.p(*p));
-    w.n(rule(&path));
-    w.n(usize::from(path.as_rounded_rect().is_some()));
-    if let Some((r, radius)) = path.as_rounded_rect() {
+    fn lengths(&self) -> Vec<f32> {
+        self.polylines.iter().flat_map(|l| l.windows(2)).map(|w| (w[1] - w[0]).length()).collect()
+    }
+}
+
+impl Answers {
+    fn case(&mut self, c: &Case) {
+        let w = &mut self.words;
+        [c.tolerance, c.phase, c.scale].iter().for_each(|x| w.f(*x));
+        w.n(c.intervals.len());
+        c.intervals.iter().for_each(|x| w.f(*x));
+        w.n(c.calls.len());
+        c.calls.iter().for_each(|c| w.0.extend(call_words(c)));
+    }
+
+    /// The calls, one after another.
+    fn calls(&mut self, calls: &[Call]) -> PathBuilder {
+        let mut b = PathBuilder::new();
+        let mut last = 9;
+        for call in calls {
+            let before = b.clone().build();
+            b = apply(b, call);
+            let laid = b.clone().build().verbs()[before.verbs().len()..].to_vec();
+            let kind = call_words(call)[0] as usize;
+            let quads = if kind == 5 { laid.iter().filter(|v| **v == Verb::QuadTo).count() } else { 0 };
+            self.words.n(quads);
+            self.words.n(0);
+            self.shows.push(format!("call {kind} behind {last} empty {}", before.verbs().is_empty()));
+            match *call {
+                Call::Conic(c, p, weight) => {
+                    let finite = |p: [f32; 2]| p[0].is_finite() && p[1].is_finite();
+                    self.shows.push(format!("conic {quads} weight {} {} {} {}", like(weight), weight > 0.0, finite(c), finite(p)));
+                    self.shows.push(format!("conic near one {} {quads}", (weight - 1.0).abs() <= 1e-3));
+                }
+                Call::Note(lo, hi, r) => self.shows.push(format!("note {} {} {} {}", like(lo[0]), like(hi[1]), like(r), r.is_sign_negative())),
+                _ => (),
+            }
+            last = kind;
+        }
+        b
+    }
+
+    fn path(&mut self, pen: Option<Vec2>, path: &Path) {
+        let w = &mut self.words;
+        w.verbs(path.verbs());
+        w.points(path.points());
+        w.n(usize::from(pen.is_some()));
+        pen.iter().for_each(|p| w.p(*p));
+        w.n(rule(path));
+        w.n(usize::from(path.as_rounded_rect().is_some()));
+        if let Some((r, radius)) = path.as_rounded_rect() {
+            w.p(r.min);
+            w.p(r.max);
+            w.f(radius);
+        }
+    }
+
+    fn questions(&mut self, path: &Path) {
+        let (w, r) = (&mut self.words, path.bounds());
+        w.n(0);
         w.p(r.min);
         w.p(r.max);
-        w.f(radius);
+        w.f(r.width());
+        w.f(r.height());
+        w.n(usize::from(r.is_empty()));
+        w.n(usize::from(path.is_finite()));
+        w.n(usize::from(path.is_within_tessellation_range()));
+        self.shows.push(format!("bounds {} finite {} range {}", r.is_empty(), path.is_finite(), path.is_within_tessellation_range()));
+        let (own, polygon) = (concave(path.convexity()), concave(polygon_convexity(path.points())));
+        w.n(own);
+        w.n(polygon);
+        let ps = path.points();
+        let repeats = ps.windows(2).filter(|w| w[0] == w[1]).count().min(3);
+        let curved = path.verbs().iter().any(|v| matches!(v, Verb::QuadTo | Verb::CubicTo));
+        self.shows.push(format!("convex {own} {polygon} of {} repeats {repeats} curved {curved} finite {}", size(ps.len()), path.is_finite()));
     }
-    let r = path.bounds();
-    w.n(0);
-    w.p(r.min);
-    w.p(r.max);
-    w.f(r.width());
-    w.f(r.height());
-    w.n(usize::from(r.is_empty()));
-    w.n(usize::from(path.is_finite()));
-    w.n(usize::from(path.is_within_tessellation_range()));
-    shows.push(format!("bounds {} finite {} range {}", r.is_empty(), path.is_finite(), path.is_within_tessellation_range()));
-    let (own, polygon) = (concave(path.convexity()), concave(polygon_convexity(path.points())));
-    w.n(own);
-    w.n(polygon);
-    let ps = path.points();
-    let repeats = ps.windows(2).filter(|w| w[0] == w[1]).count();
-    let curved = path.verbs().iter().any(|v| matches!(v, Verb::QuadTo | Verb::CubicTo));
-    shows.push(format!("convex {own} {polygon} of {} repeats {} curved {curved} finite {}", size(ps.len()), repeats.min(3), path.is_finite()));
 
-    // flatten
-    let flat = flatten(&path, c.tolerance);
-    let (mut pen, mut start, mut each) = (Vec2::ZERO, Vec2::ZERO, Vec::new());
-    for (verb, p) in path.segments() {
-        let mut n = 0;
-        match verb {
-            Verb::MoveTo => start = p[0],
-            Verb::LineTo => (),
-            Verb::QuadTo => n = curves::quad_segment_count(pen, p[0], p[1], c.tolerance) as usize,
-            Verb::CubicTo => n = curves::cubic_segment_count(pen, p[0], p[1], p[2], c.tolerance) as usize,
-            Verb::Close => shows.push(format!(
-                "close at start {} bits {} start {} {}",
-                pen == start,
-                (pen.x.to_bits(), pen.y.to_bits()) == (start.x.to_bits(), start.y.to_bits()),
-                like(start.x),
-                like(start.y)
-            )),
+    /// Flattens by the source, and asks for the N of every verb.
+    fn flat(&mut self, path: &Path, tolerance: f32) -> Flat {
+        let (mut pen, mut start, mut each) = (Vec2::ZERO, Vec2::ZERO, Vec::new());
+        for (verb, p) in path.segments() {
+            let mut n = 0;
+            match verb {
+                Verb::MoveTo => start = p[0],
+                Verb::LineTo => (),
+                Verb::QuadTo => n = curves::quad_segment_count(pen, p[0], p[1], tolerance) as usize,
+                Verb::CubicTo => n = curves::cubic_segment_count(pen, p[0], p[1], p[2], tolerance) as usize,
+                Verb::Close => self.shows.push(format!(
+                    "close at start {} bits {} start {} {}",
+                    pen == start,
+                    (pen.x.to_bits(), pen.y.to_bits()) == (start.x.to_bits(), start.y.to_bits()),
+                    like(start.x),
+                    like(start.y)
+                )),
+            }
+            if n > 0 {
+                let wild = p.iter().any(|p| !p.is_finite()) || !pen.is_finite();
+                self.shows.push(format!("count {} of {} tolerance {} wild {wild}", size(n), p.len(), like(tolerance)));
+            }
+            each.push(n);
+            pen = *p.last().unwrap_or(&start);
         }
-        if n > 0 {
-            let wild = p.iter().any(|p| !p.is_finite()) || !pen.is_finite();
-            shows.push(format!("count {} of {} tolerance {} wild {wild}", size(n), p.len(), like(c.tolerance)));
-        }
-        each.push(n);
-        pen = *p.last().unwrap_or(&start);
+        Flat { polylines: flatten(path, tolerance), each }
     }
-    let points: Vec<Vec2> = flat.iter().flatten().copied().collect();
-    let lines = path.verbs().iter().filter(|v| **v == Verb::LineTo).count();
-    let moves = path.verbs().iter().filter(|v| **v == Verb::MoveTo).count();
-    let counts: usize = each.iter().sum();
-    let closings = points.len() - flat.len() - lines - counts;
-    shows.push(format!("flat {} of {} moves, closings {}", size(flat.len()), size(moves), closings.min(3)));
-    w.n(0);
-    [flat.len(), lines, counts, closings].iter().for_each(|n| w.n(*n));
-    w.points(&points);
-    w.n(flat.len());
-    let mut end = 0;
-    for l in &flat {
-        end += l.len();
-        w.n(end);
-    }
-    each.iter().for_each(|n| w.n(*n));
 
-    // dash
-    let dash = Dash::new(c.intervals.clone(), c.phase);
-    w.n(usize::from(dash.is_usable()));
-    let sum: f32 = c.intervals.iter().sum();
-    let lengths: Vec<f32> = flat.iter().flat_map(|l| l.windows(2)).map(|w| (w[1] - w[0]).length()).collect();
-    let length: f32 = lengths.iter().filter(|l| l.is_finite()).sum();
-    if dash.is_usable() && 2.1 * sum > c.tolerance && !(length / sum * (c.intervals.len() as f32) < 2000.0) {
-        return None;
+    fn flattened(&mut self, path: &Path, flat: &Flat) {
+        let (points, starts) = (flat.points(), flat.polylines.len());
+        let of = |verb: Verb| path.verbs().iter().filter(|v| **v == verb).count();
+        let (lines, moves) = (of(Verb::LineTo), of(Verb::MoveTo));
+        let counts: usize = flat.each.iter().sum();
+        let closings = points.len() - starts - lines - counts;
+        self.shows.push(format!("flat {} of {} moves, closings {}", size(starts), size(moves), closings.min(3)));
+        let w = &mut self.words;
+        w.n(0);
+        [starts, lines, counts, closings].iter().for_each(|n| w.n(*n));
+        w.points(&points);
+        w.n(starts);
+        let mut end = 0;
+        for l in &flat.polylines {
+            end += l.len();
+            w.n(end);
+        }
+        flat.each.iter().for_each(|n| w.n(*n));
     }
-    b.as_rounded_rect(Rect::new(Vec2::ZERO, Vec2::ZERO), 1.0);
-    let cut = dash_path(&b.build(), &dash, c.tolerance);
-    let whole = cut.as_rounded_rect().is_some();
-    let zeros = c.intervals.iter().filter(|x| **x == 0.0).count();
-    let bad = c.intervals.iter().map(|x| (like(*x) < 2) as usize + 2 * usize::from(*x < 0.0)).max().unwrap_or(9);
-    shows.push(format!(
-        "whole {whole} usable {} odd {} zeros {} bad {bad} phase {} {} sum {:?}",
-        dash.is_usable(),
-        c.intervals.len() % 2,
-        zeros.min(2),
-        like(c.phase).min(3),
-        c.phase < 0.0,
-        sum.partial_cmp(&c.tolerance)
-    ));
-    shows.push(format!("whole {whole} intervals {}", c.intervals.len().min(9)));
-    w.n(usize::from(!whole));
-    if !whole {
-        w.n(rule(&cut));
-        w.verbs(cut.verbs());
-        w.points(cut.points());
+
+    /// Dashes by the source a path that is noted, so that a note tells Whole. None where the source would walk too long.
+    fn dashed(&mut self, c: &Case, noted: &Path, flat: &Flat) -> Option<Path> {
+        let dash = Dash::new(c.intervals.clone(), c.phase);
+        self.words.n(usize::from(dash.is_usable()));
+        let sum: f32 = c.intervals.iter().sum();
+        let length: f32 = flat.lengths().iter().filter(|l| l.is_finite()).sum();
+        if dash.is_usable() && 2.1 * sum > c.tolerance && !(length / sum * (c.intervals.len() as f32) < 2000.0) {
+            return None;
+        }
+        let cut = dash_path(noted, &dash, c.tolerance);
+        let whole = cut.as_rounded_rect().is_some();
+        let zeros = c.intervals.iter().filter(|x| **x == 0.0).count().min(2);
+        let bad = c.intervals.iter().map(|x| (like(*x) < 2) as usize + 2 * usize::from(*x < 0.0)).max().unwrap_or(9);
+        self.shows.push(format!(
+            "whole {whole} usable {} odd {} zeros {zeros} bad {bad} phase {} {} sum {:?}",
+            dash.is_usable(),
+            c.intervals.len() % 2,
+            like(c.phase).min(3),
+            c.phase < 0.0,
+            sum.partial_cmp(&c.tolerance)
+        ));
+        self.shows.push(format!("whole {whole} intervals {}", c.intervals.len().min(9)));
+        self.words.n(usize::from(!whole));
+        if !whole {
+            self.cut(&cut, &flat.lengths(), zeros, c.phase > sum);
+        }
+        Some(cut)
+    }
+
+    fn cut(&mut self, cut: &Path, lengths: &[f32], zeros: usize, over: bool) {
+        self.words.n(rule(cut));
+        self.words.verbs(cut.verbs());
+        self.words.points(cut.points());
         let kinds = |f: fn(&f32) -> bool| lengths.iter().filter(|l| f(l)).count().min(2);
-        shows.push(format!(
-            "cut {} of {} legs, zero {} wild {} zeros {} over {}",
+        self.shows.push(format!(
+            "cut {} of {} legs, zero {} wild {} zeros {zeros} over {over}",
             size(cut.verbs().len()).min(8),
             size(lengths.len()).min(7),
             kinds(|l| *l == 0.0),
             kinds(|l| !l.is_finite()),
-            zeros.min(2),
-            c.phase > sum
         ));
     }
+}
+
+/// The case with its answers, and what it shows. None where the program's buffers or the reference's time do not suffice.
+fn answered(c: &Case, most: usize) -> Option<Answers> {
+    let mut a = Answers::default();
+    a.case(c);
+    let mut b = a.calls(&c.calls);
+    let path = b.clone().build();
+    a.path(b.current_point(), &path);
+    a.questions(&path);
+    let flat = a.flat(&path, c.tolerance);
+    a.flattened(&path, &flat);
+    b.as_rounded_rect(Rect::new(Vec2::ZERO, Vec2::ZERO), 1.0);
+    let cut = a.dashed(c, &b.build(), &flat)?;
     let scaled = curves::tolerance_for_scale(c.tolerance, c.scale);
-    w.f(scaled);
-    shows.push(format!("scaled {} by {} {}", like(scaled), like(c.scale), c.scale < 0.0));
-    let fits = path.verbs().len() <= 500 && path.points().len() <= 1000 && points.len() <= 2000 && flat.len() <= 250 && cut.verbs().len() <= 2000;
-    (fits && w.0.len() <= most).then_some((w.0, shows))
+    a.words.f(scaled);
+    a.shows.push(format!("scaled {} by {} {}", like(scaled), like(c.scale), c.scale < 0.0));
+    let given = path.verbs().len() <= 500 && path.points().len() <= 1000;
+    let fits = given && flat.points().len() <= 2000 && flat.polylines.len() <= 250 && cut.verbs().len() <= 2000;
+    (fits && a.words.0.len() <= most).then_some(a)
 }
 
 fn main() {
@@ -267,7 +323,7 @@ fn main() {
     let rounds = [(0..60_000u64, 90, 2), (60_000..200_000, 160, 1), (200_000..260_000, 500, 1), (260_000..280_000, 4000, 1)];
     for (number, most, enough) in rounds.into_iter().flat_map(|(numbers, most, enough)| numbers.map(move |n| (n, most, enough))) {
         let c = case::random(&mut Rng::new(1, number), 24);
-        let Some((w, shows)) = answered(&c, most) else { continue };
+        let Some(Answers { words: Words(w), shows }) = answered(&c, most) else { continue };
         if most > 200 && shows.iter().filter(|s| !seen.contains_key(*s)).count() < 2 {
             continue;
         }
