@@ -1,4 +1,5 @@
 //! Random cases: floats of every kind, lists of builder calls, patterns, tolerances, and which buffers are lent.
+use crate::held;
 use std::fmt::Write;
 
 pub struct Rng(u64);
@@ -37,6 +38,9 @@ impl Rng {
 }
 
 pub type Point = [f32; 2];
+
+/// One case in so many flattens at the edge where a curve is held back. Each curve there has 1,000 lines: more would cost time.
+const EDGES: u64 = 8;
 
 #[derive(Clone, Copy, Debug)]
 pub enum Call {
@@ -211,6 +215,38 @@ pub fn call(r: &mut Rng, kind: u64, seen: &mut Vec<Point>) -> Call {
     }
 }
 
+/// The quads and cubics of a list of calls, each with the pen before it.
+fn curves(calls: &[Call]) -> Vec<Vec<Point>> {
+    let (mut pen, mut start) = ([0.0; 2], [0.0; 2]);
+    let mut curves = Vec::new();
+    for call in calls {
+        match *call {
+            Call::Quad(c, p) => curves.push(vec![pen, c, p]),
+            Call::Cubic(c, d, p) => curves.push(vec![pen, c, d, p]),
+            Call::Move(p) => start = p,
+            _ => (),
+        }
+        pen = match *call {
+            Call::Move(p) | Call::Line(p) | Call::Quad(_, p) | Call::Conic(_, p, _) | Call::Cubic(_, _, p) => p,
+            Call::Close => start,
+            Call::Rule(_) | Call::Note(..) => pen,
+        };
+    }
+    curves
+}
+
+/// A tolerance at which the s of a curve is about `s`.
+pub fn tolerance_near(r: &mut Rng, curve: &[Point], s: f32) -> f32 {
+    nudged(r, held::dividend(curve) / (4.0 * s))
+}
+
+/// A tolerance that just holds one of the calls' curves back, or just doesn't. None where there is no curve.
+fn tolerance_at_edge(r: &mut Rng, calls: &[Call]) -> Option<f32> {
+    let curves = curves(calls);
+    let curve = curves.get(r.below(curves.len().max(1) as u64) as usize)?;
+    Some(tolerance_near(r, curve, held::EDGE))
+}
+
 /// A random case with at most `long` calls where it is a long one: one in sixteen.
 pub fn random(r: &mut Rng, long: u64) -> Case {
     let kind = r.below(7);
@@ -251,7 +287,11 @@ pub fn random(r: &mut Rng, long: u64) -> Case {
         3 | 4 => r.below(400) as f32 / 8.0,
         _ => 0.0,
     };
-    Case { tolerance: tolerance(r, wide), scale: r.any(), phase, intervals, calls, seed: r.next() }
+    let mut c = Case { tolerance: tolerance(r, wide), scale: r.any(), phase, intervals, calls, seed: r.next() };
+    if r.one_in(EDGES) {
+        c.tolerance = tolerance_at_edge(r, &c.calls).unwrap_or(c.tolerance);
+    }
+    c
 }
 
 /// A case as text, floats as 8 hexadecimal digits.

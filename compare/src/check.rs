@@ -1,8 +1,9 @@
-//! One case through both sides: every answer and every buffer of the library against the Rust source and the numbers.
+//! One case through both sides: every answer and every buffer of the library against the Rust source, the numbers, and, for curves held back, the
+//! request.
 use crate::case::{self, Call, Case, Point, Rng};
-use crate::numbers;
+use crate::{held, numbers};
 use hizlaou::ffi::{self, Builder};
-use hizlaou::Vec2 as Pt;
+use hizlaou::{SegmentCount, Vec2 as Pt};
 use source::dash::{dash_path, Dash};
 use source::flatten::{self as curves, flatten};
 use source::path::{polygon_convexity, Convexity, FillRule, Path, PathBuilder, Rect, Verb};
@@ -14,8 +15,9 @@ use std::sync::atomic::{AtomicU64, Ordering};
 pub type Differs = (String, String);
 type Checked = Result<(), Differs>;
 
-static SEEN: [AtomicU64; 16] = [const { AtomicU64::new(0) }; 16];
-const NAMES: [&str; 16] = [
+const KINDS: usize = 28;
+static SEEN: [AtomicU64; KINDS] = [const { AtomicU64::new(0) }; KINDS];
+const NAMES: [&str; KINDS] = [
     "",
     "refusals 1",
     "2",
@@ -32,15 +34,44 @@ const NAMES: [&str; 16] = [
     "builder calls",
     "conics split",
     "damaged paths",
+    "counts not held",
+    "counts held",
+    "counts near the edge not held",
+    "counts near the edge held",
+    "flattened curves not held",
+    "flattened curves held",
+    "flattened curves near the edge not held",
+    "flattened curves near the edge held",
+    "cut with held curves",
+    "drawn whole with held curves",
+    "3 for points or scratch with held curves",
+    "3 for the dash buffers with held curves",
 ];
+/// The first of four: not held, held, and the same near the edge. For counts asked alone, and for the curves of accepted flattenings.
+const ASKED: usize = 16;
+const FLATTENED: usize = 20;
+/// Answers for paths with curves that a flattening holds back.
+const HELD_CUT: usize = 24;
+const HELD_WHOLE: usize = 25;
+const HELD_FIRST_3: usize = 26;
+const HELD_SECOND_3: usize = 27;
 
 fn seen(what: usize) {
     SEEN[what].fetch_add(1, Ordering::Relaxed);
 }
 
+/// Counts an s among the four kinds from `first` on.
+fn seen_squared(first: usize, s: f32) {
+    let held = usize::from(held::held(s));
+    seen(first + held);
+    if held::near_edge(s) {
+        seen(first + 2 + held);
+    }
+}
+
 /// What the cases came to.
 pub fn counted() -> String {
-    (1..16).map(|i| format!("{} {}", NAMES[i], SEEN[i].load(Ordering::Relaxed))).collect::<Vec<_>>().join(", ")
+    (1..KINDS).map(|i| format!("{} {}", NAMES[i], SEEN[i].load(Ordering::Relaxed))).collect::<Vec<_>>().join(", ")
 }
 
 fn equal<T: PartialEq + Debug>(question: &str, got: T, want: T) -> Checked {
@@ -69,6 +100,12 @@ fn computed(question: &str, got: f32, want: f32) -> Checked {
         return Ok(());
     }
     equal(question, bits(got), bits(want))
+}
+
+/// A count: N is the source's, and whether it was held back is the request's answer for s.
+fn counts(question: &str, got: SegmentCount, n: u32, s: f32) -> Checked {
+    seen_squared(ASKED, s);
+    equal(question, (got.count, got.held), (n, held::held(s)))
 }
 
 fn v2(p: Point) -> Vec2 {
@@ -436,18 +473,45 @@ fn damaged_state(r: &mut Rng, mut s: Builder, lens: (usize, usize)) -> Checked {
 // ---- paths
 
 /// What the source flattens a path to: for each float whether it is computed, and the totals.
+#[derive(Default)]
 struct Flat {
     points: Vec<(f32, bool)>,
     ends: Vec<usize>,
     lines: usize,
-    counts: usize,
     closings: usize,
-    each: Vec<usize>,
+    /// For each verb the N and the s of its curve.
+    each: Vec<Option<(usize, f32)>>,
+}
+
+impl Flat {
+    fn counts(&self) -> usize {
+        self.each.iter().flatten().map(|(n, _)| n).sum()
+    }
+    fn held(&self) -> usize {
+        self.each.iter().flatten().filter(|(_, s)| held::held(*s)).count()
+    }
+    /// Counts an answer of kind `what` where curves are held back.
+    fn seen_held(&self, what: usize) {
+        if self.held() > 0 {
+            seen(what);
+        }
+    }
+}
+
+/// The N of a curve by the source, and its s; None for a verb that is no curve.
+fn curve_count(pen: Vec2, p: &[Vec2], tolerance: f32) -> Option<(usize, f32)> {
+    let n = match *p {
+        [c, to] => curves::quad_segment_count(pen, c, to, tolerance),
+        [c, d, to] => curves::cubic_segment_count(pen, c, d, to, tolerance),
+        _ => return None,
+    };
+    let curve: Vec<Point> = [&[pen], p].concat().iter().map(|p| [p.x, p.y]).collect();
+    Some((n as usize, held::squared(&curve, tolerance)))
 }
 
 fn reference_flat(path: &Path, tolerance: f32) -> (Flat, Vec<Vec<Vec2>>) {
     let polylines = flatten(path, tolerance);
-    let mut flat = Flat { points: Vec::new(), ends: Vec::new(), lines: 0, counts: 0, closings: 0, each: Vec::new() };
+    let mut flat = Flat::default();
     let (mut pen, mut start) = (Vec2::ZERO, Vec2::ZERO);
     let mut marks: Vec<bool> = Vec::new();
     let end = |flat: &mut Flat, marks: &mut Vec<bool>| {
@@ -460,25 +524,21 @@ fn reference_flat(path: &Path, tolerance: f32) -> (Flat, Vec<Vec<Vec2>>) {
         marks.clear();
     };
     for (verb, p) in path.segments() {
-        let mut n = 0;
+        let count = curve_count(pen, p, tolerance);
         match verb {
             Verb::MoveTo => {
                 end(&mut flat, &mut marks);
-                (pen, start) = (p[0], p[0]);
+                start = p[0];
                 marks.push(false);
             }
             Verb::LineTo => {
                 flat.lines += 1;
                 marks.push(false);
-                pen = p[0];
             }
-            Verb::QuadTo => {
-                n = curves::quad_segment_count(pen, p[0], p[1], tolerance) as usize;
-                pen = p[1];
-            }
-            Verb::CubicTo => {
-                n = curves::cubic_segment_count(pen, p[0], p[1], p[2], tolerance) as usize;
-                pen = p[2];
+            Verb::QuadTo | Verb::CubicTo => {
+                let inner = count.map_or(0, |(n, _)| n - 1);
+                marks.resize(marks.len() + inner, true);
+                marks.push(false);
             }
             Verb::Close => {
                 let line = polylines.get(flat.ends.len());
@@ -486,15 +546,10 @@ fn reference_flat(path: &Path, tolerance: f32) -> (Flat, Vec<Vec<Vec2>>) {
                     marks.push(false);
                     flat.closings += 1;
                 }
-                pen = start;
             }
         }
-        flat.each.push(n);
-        flat.counts += n;
-        if n > 0 {
-            marks.resize(marks.len() + n - 1, true);
-            marks.push(false);
-        }
+        flat.each.push(count);
+        pen = *p.last().unwrap_or(&start);
     }
     end(&mut flat, &mut marks);
     assert_eq!(flat.ends.len(), polylines.len(), "the source's polylines");
@@ -525,23 +580,98 @@ fn flattening(g: &Given, tolerance: f32, flat: Option<&Flat>, lens: (usize, usiz
     if let (0, Some(f)) = (number, flat) {
         if lens.0 < f.points.len() || lens.1 < f.ends.len() {
             number = 3;
+            f.seen_held(HELD_FIRST_3);
         }
     }
     refused("flatten refusal", got.refused, number)?;
-    let mut want = [0; 6];
+    let mut want = [0; 7];
     if let (0, Some(f)) = (number, flat) {
-        want = [f.points.len() / 2, f.ends.len(), f.ends.len(), f.lines, f.counts, f.closings];
+        want = [f.points.len() / 2, f.ends.len(), f.ends.len(), f.lines, f.counts(), f.closings, f.held()];
+        f.each.iter().flatten().for_each(|(_, s)| seen_squared(FLATTENED, *s));
         out.expect(0, &f.points);
         ends.want[..f.ends.len()].copy_from_slice(&f.ends);
     }
-    equal("flatten totals", [got.points, got.polylines, got.starts, got.lines, got.counts, got.closings], want)?;
+    equal("flatten totals", [got.points, got.polylines, got.starts, got.lines, got.counts, got.closings, got.held], want)?;
     out.all("flattened points")?;
     ends.all("flattened ends")
+}
+
+/// The N of every verb and whether it was held back; past the end nothing.
+fn carried(g: &Given, tolerance: f32, flat: &Flat) -> Checked {
+    for i in (0..g.verbs.len() + 2).chain([usize::MAX]) {
+        // SAFETY: the path is read.
+        let got = g.ask(|v, n, p, m| unsafe { ffi::hz_carried_count(v, n, p, m, tolerance, i) });
+        let want = flat.each.get(i).copied().flatten().map_or((0, false), |(n, s)| (n, held::held(s)));
+        equal("carried count", (got.refused, got.count, got.held), (0, want.0, want.1))?;
+    }
+    Ok(())
 }
 
 struct Cut {
     verbs: Vec<u8>,
     points: Vec<(f32, bool)>,
+}
+
+/// The buffers lent for dashing: the scratch's points and ends, and the dash's.
+struct Lent {
+    scratch: Floats,
+    ends: Ends,
+    points: Floats,
+    verbs: Bytes,
+}
+
+impl Lent {
+    fn new(scratch: (usize, usize), dash: (usize, usize)) -> Lent {
+        Lent { scratch: Floats::new(scratch.0), ends: Ends::new(scratch.1), points: Floats::new(dash.0), verbs: Bytes::new(dash.1) }
+    }
+    fn dash(&mut self, g: &Given, c: &Case, rule: u8) -> ffi::Dashed {
+        let Lent { scratch, ends, points, verbs } = self;
+        // SAFETY: path and pattern are read; the outputs are lent with their own lengths.
+        g.ask(|v, n, p, m| unsafe {
+            ffi::hz_dash_path(
+                v,
+                n,
+                p,
+                m,
+                rule,
+                c.intervals.as_ptr(),
+                c.intervals.len(),
+                c.phase,
+                c.tolerance,
+                scratch.lent.as_mut_ptr(),
+                scratch.lent.len(),
+                ends.lent.as_mut_ptr(),
+                ends.lent.len(),
+                verbs.lent.as_mut_ptr(),
+                verbs.lent.len(),
+                points.lent.as_mut_ptr(),
+                points.lent.len(),
+            )
+        })
+    }
+    fn all(&self) -> Checked {
+        self.scratch.all("dash scratch")?;
+        self.ends.all("dash ends")?;
+        self.verbs.all("dash verbs")?;
+        self.points.all("dash points")
+    }
+    /// What a path flattened to `f` and cut to `d` is to leave in the buffers, and the refusal: 3 for the scratch, 3 for the dash buffers, or none.
+    fn expect(&mut self, f: &Flat, d: &Cut) -> u8 {
+        if self.scratch.lent.len() < f.points.len() || self.ends.lent.len() < f.ends.len() {
+            f.seen_held(HELD_FIRST_3);
+            return 3;
+        }
+        self.scratch.expect(0, &f.points);
+        self.ends.want[..f.ends.len()].copy_from_slice(&f.ends);
+        let (verbs, points) = (self.verbs.lent.len().min(numbers::MAX_VERBS), self.points.lent.len().min(2 * numbers::MAX_POINTS));
+        if d.verbs.len() > verbs || d.points.len() > points {
+            f.seen_held(HELD_SECOND_3);
+            return 3;
+        }
+        self.verbs.want[..d.verbs.len()].copy_from_slice(&d.verbs);
+        self.points.expect(0, &d.points);
+        0
+    }
 }
 
 /// Dashing into outputs of such lengths; `whole` and `cut` are what is right where nothing is refused.
@@ -556,61 +686,33 @@ fn dashing(
     scratch_lens: (usize, usize),
     dash_lens: (usize, usize),
 ) -> Checked {
-    let (mut scratch, mut ends) = (Floats::new(scratch_lens.0), Ends::new(scratch_lens.1));
-    let (mut points, mut verbs) = (Floats::new(dash_lens.0), Bytes::new(dash_lens.1));
-    // SAFETY: path and pattern are read; the outputs are lent with their own lengths.
-    let got = g.ask(|v, n, p, m| unsafe {
-        ffi::hz_dash_path(
-            v,
-            n,
-            p,
-            m,
-            rule,
-            c.intervals.as_ptr(),
-            c.intervals.len(),
-            c.phase,
-            c.tolerance,
-            scratch.lent.as_mut_ptr(),
-            scratch_lens.0,
-            ends.lent.as_mut_ptr(),
-            scratch_lens.1,
-            verbs.lent.as_mut_ptr(),
-            dash_lens.1,
-            points.lent.as_mut_ptr(),
-            dash_lens.0,
-        )
-    });
+    let mut lent = Lent::new(scratch_lens, dash_lens);
+    let got = lent.dash(g, c, rule);
     let mut number = if scratch_lens.0 % 2 == 1 || dash_lens.0 % 2 == 1 { 1 } else { g.refusal() };
     if number == 0 && c.intervals.len() > 64 {
         number = 8;
     }
-    let mut want = ([0; 4], u8::from(number != 0) * 2, 0);
-    if let (0, false, Some(f), Some(d)) = (number, whole, flat, cut) {
-        if scratch_lens.0 < f.points.len() || scratch_lens.1 < f.ends.len() {
-            number = 3;
+    // Whole and every refusal carry no number.
+    let mut want = ([0; 5], 0, 0);
+    if let (0, Some(f), Some(d)) = (number, flat, cut) {
+        if whole {
+            f.seen_held(HELD_WHOLE);
         } else {
-            scratch.expect(0, &f.points);
-            ends.want[..f.ends.len()].copy_from_slice(&f.ends);
-            if d.verbs.len() > dash_lens.1.min(numbers::MAX_VERBS) || d.points.len() > dash_lens.0.min(2 * numbers::MAX_POINTS) {
-                number = 3;
-            }
+            number = lent.expect(f, d);
         }
-        if number == 0 {
-            want = ([d.verbs.len(), d.points.len() / 2, f.points.len() / 2, f.ends.len()], 1, u8::from(rule != 0));
-            verbs.want[..d.verbs.len()].copy_from_slice(&d.verbs);
-            points.expect(0, &d.points);
-        } else {
-            want.1 = 2;
+        if !whole && number == 0 {
+            f.seen_held(HELD_CUT);
+            want = ([d.verbs.len(), d.points.len() / 2, f.points.len() / 2, f.ends.len(), f.held()], 1, u8::from(rule != 0));
         }
     }
+    if number != 0 {
+        want.1 = 2;
+    }
     refused("dash refusal", got.refused, number)?;
-    equal("dash answer", ([got.verbs, got.points, got.scratch, got.polylines], got.kind, got.fill_rule), want)?;
-    scratch.all("dash scratch")?;
-    ends.all("dash ends")?;
-    verbs.all("dash verbs")?;
-    points.all("dash points")?;
+    equal("dash answer", ([got.verbs, got.points, got.scratch, got.polylines, got.held], got.kind, got.fill_rule), want)?;
+    lent.all()?;
     // SAFETY: both buffers are read.
-    let part = unsafe { ffi::hz_drawn_outline(g.points.as_ptr(), g.points.len(), g.points.len() / 2, points.lent.as_ptr(), dash_lens.0, got) };
+    let part = unsafe { ffi::hz_drawn_outline(g.points.as_ptr(), g.points.len(), g.points.len() / 2, lent.points.lent.as_ptr(), dash_lens.0, got) };
     let want = match got.kind {
         0 => (0, g.points.len() / 2 * 2),
         1 => (1, 2 * got.points),
@@ -714,7 +816,7 @@ fn refused_path(r: &mut Rng, c: &Case, g: &Given) -> Checked {
     equal("finite of a refused path", (finite.refused, finite.holds), (number, false))?;
     equal("range of a refused path", (range.refused, range.holds), (number, false))?;
     equal("convexity of a refused path", (convex.refused, convex.convexity), (number, 1))?;
-    equal("count of a refused path", (carried.refused, carried.count), (number, 0))?;
+    equal("count of a refused path", (carried.refused, carried.count, carried.held), (number, 0, false))?;
     flattening(g, c.tolerance, None, lengths(r, 24, 4))?;
     dashing(g, c, 0, None, false, None, lengths(r, 24, 4), lengths(r, 24, 12))
 }
@@ -734,7 +836,8 @@ fn count_of(squared: f32) -> u32 {
 const STYLES: [&[f32]; 9] =
     [&[], &[12.0, 6.0], &[6.0, 6.0], &[2.0, 4.0], &[12.0, 4.0, 2.0, 4.0], &[12.0, 4.0, 2.0, 4.0, 2.0, 4.0], &[8.0], &[4.0, 2.0, 1.0], &[24.0, 8.0]];
 
-fn values(r: &mut Rng, c: &Case) -> Checked {
+/// Four points of the case, or any where it has none.
+fn four_points(r: &mut Rng, c: &Case) -> [Point; 4] {
     let mut drawn = Vec::new();
     for call in &c.calls {
         match *call {
@@ -744,31 +847,54 @@ fn values(r: &mut Rng, c: &Case) -> Checked {
             Call::Close | Call::Rule(_) => (),
         }
     }
-    let p: [Point; 4] = std::array::from_fn(|_| match drawn.len() {
+    std::array::from_fn(|_| match drawn.len() {
         0 => [r.any(), r.any()],
         n => drawn[r.below(n as u64) as usize],
-    });
-    let t = if r.one_in(4) { r.any() } else { r.below(1001) as f32 / 1000.0 };
-    // a square and its neighbours, where the count steps; other floats
+    })
+}
+
+/// The counts of a quad and a cubic at a tolerance each.
+fn curve_counts(question: &str, p: [Point; 4], quad: f32, cubic: f32) -> Checked {
+    let ([a, b, d, e], [ha, hb, hd, he]) = (p.map(v2), p.map(pt));
+    // SAFETY: values only.
+    let got = unsafe { (ffi::hz_quad_segment_count(ha, hb, hd, quad), ffi::hz_cubic_segment_count(ha, hb, hd, he, cubic)) };
+    let n = curves::quad_segment_count(a, b, d, quad);
+    counts(&format!("quad count{question}"), got.0, n, held::squared(&p[..3], quad))?;
+    let n = curves::cubic_segment_count(a, b, d, e, cubic);
+    counts(&format!("cubic count{question}"), got.1, n, held::squared(&p, cubic))
+}
+
+/// Roots and counts: of a float, and of curves at the case's tolerance, where N steps from n, and where holding back begins.
+fn roots_and_counts(r: &mut Rng, c: &Case, p: [Point; 4]) -> Checked {
     let n = 1 + r.below(1002) as u32;
-    let x = match r.below(3) {
+    let x = match r.below(6) {
         0 => r.any(),
         1 => case::nudged(r, (n * n) as f32),
+        2 => case::nudged(r, held::EDGE),
+        3 => case::nudged(r, f32::INFINITY),
+        4 => case::nudged(r, f32::NEG_INFINITY),
         _ => r.below(1_100_000) as f32 * 0.125,
     };
+    // SAFETY: values only.
+    let (root, count) = unsafe { (ffi::hz_sqrt(x), ffi::hz_segment_count(x)) };
+    computed("sqrt", root, x.sqrt())?;
+    counts("segment_count", count, count_of(x), x)?;
+    curve_counts("", p, c.tolerance, c.tolerance)?;
+    for (question, s) in [(" at a step", (n * n) as f32), (" at the edge", held::EDGE)] {
+        let (quad, cubic) = (case::tolerance_near(r, &p[..3], s), case::tolerance_near(r, &p, s));
+        curve_counts(question, p, quad, cubic)?;
+    }
+    Ok(())
+}
+
+fn values(r: &mut Rng, c: &Case) -> Checked {
+    let p = four_points(r, c);
+    roots_and_counts(r, c, p)?;
+    let t = if r.one_in(4) { r.any() } else { r.below(1001) as f32 / 1000.0 };
     let [a, b, d, e] = p.map(v2);
-    // a tolerance at which the quad's count, or the cubic's, steps from n
-    let bend = |a: Vec2, b: Vec2, c: Vec2| (a - b * 2.0 + c).abs().max_element() * std::f32::consts::SQRT_2;
-    let quad_step = case::nudged(r, bend(a, b, d) / (4 * n * n) as f32);
-    let cubic_step = case::nudged(r, 3.0 * bend(a, b, d).max(bend(b, d, e)) / (4 * n * n) as f32);
     // SAFETY: values only.
     unsafe {
         let [ha, hb, hd, he] = p.map(pt);
-        equal("quad count", ffi::hz_quad_segment_count(ha, hb, hd, c.tolerance), curves::quad_segment_count(a, b, d, c.tolerance))?;
-        equal("cubic count", ffi::hz_cubic_segment_count(ha, hb, hd, he, c.tolerance), curves::cubic_segment_count(a, b, d, e, c.tolerance))?;
-        equal("quad count at a step", ffi::hz_quad_segment_count(ha, hb, hd, quad_step), curves::quad_segment_count(a, b, d, quad_step))?;
-        let (got, want) = (ffi::hz_cubic_segment_count(ha, hb, hd, he, cubic_step), curves::cubic_segment_count(a, b, d, e, cubic_step));
-        equal("cubic count at a step", got, want)?;
         let (q, w) = (ffi::hz_eval_quad(ha, hb, hd, t), curves::eval_quad(a, b, d, t));
         computed("eval_quad", q.x, w.x)?;
         computed("eval_quad", q.y, w.y)?;
@@ -781,8 +907,6 @@ fn values(r: &mut Rng, c: &Case) -> Checked {
         } else {
             computed("tolerance_for_scale", s, w)?;
         }
-        computed("sqrt", ffi::hz_sqrt(x), x.sqrt())?;
-        equal("segment_count", ffi::hz_segment_count(x), count_of(x))?;
         let usable = Dash::new(c.intervals.clone(), c.phase).is_usable();
         equal("is_usable", ffi::hz_is_usable(c.intervals.as_ptr(), c.intervals.len(), c.phase), usable)?;
         let number = if r.one_in(16) { r.next() as usize } else { r.below(11) as usize };
@@ -816,12 +940,7 @@ pub fn case(c: &Case) -> Checked {
     questions(&given, &path, r)?;
     let (flat, polylines) = reference_flat(&path, c.tolerance);
     flattening(&given, c.tolerance, Some(&flat), lengths(r, flat.points.len(), flat.ends.len()))?;
-    for _ in 0..2 {
-        let i = r.below(given.verbs.len() as u64 + 2) as usize;
-        // SAFETY: the path is read.
-        let got = given.ask(|v, n, p, m| unsafe { ffi::hz_carried_count(v, n, p, m, c.tolerance, i) });
-        equal("carried count", (got.refused, got.count), (0, flat.each.get(i).copied().unwrap_or(0)))?;
-    }
+    carried(&given, c.tolerance, &flat)?;
     let dash = Dash::new(c.intervals.clone(), c.phase);
     let limit = if r.one_in(512) { 200_000.0 } else { 4_000.0 };
     let over = c.intervals.iter().map(|v| f64::from(*v)).sum::<f64>() * 2.1 > f64::from(c.tolerance);

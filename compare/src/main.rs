@@ -5,6 +5,7 @@
 //! Prints every difference with its case, made smaller while it differs in the same question; ends with 1 where there is one.
 mod case;
 mod check;
+mod held;
 mod numbers;
 
 use case::{random, text, Case, Rng};

@@ -8,6 +8,9 @@
 #[path = "../case.rs"]
 #[allow(dead_code)]
 mod case;
+#[path = "../held.rs"]
+#[allow(dead_code)]
+mod held;
 
 use case::{Call, Case, Rng};
 use source::dash::{dash_path, Dash};
