@@ -39,9 +39,6 @@ impl Rng {
 
 pub type Point = [f32; 2];
 
-/// One case in so many flattens at the edge where a curve is held back. Each curve there has 1,000 lines: more would cost time.
-const EDGES: u64 = 8;
-
 #[derive(Clone, Copy, Debug)]
 pub enum Call {
     Move(Point),
@@ -240,11 +237,14 @@ pub fn tolerance_near(r: &mut Rng, curve: &[Point], s: f32) -> f32 {
     nudged(r, held::dividend(curve) / (4.0 * s))
 }
 
-/// A tolerance that just holds one of the calls' curves back, or just doesn't. None where there is no curve.
-fn tolerance_at_edge(r: &mut Rng, calls: &[Call]) -> Option<f32> {
-    let curves = curves(calls);
-    let curve = curves.get(r.below(curves.len().max(1) as u64) as usize)?;
-    Some(tolerance_near(r, curve, held::EDGE))
+/// The case at a tolerance that just holds one of its curves back, or just doesn't; as it is where it has no curve.
+pub fn at_edge(r: &mut Rng, mut c: Case) -> Case {
+    let curves = curves(&c.calls);
+    if !curves.is_empty() {
+        let curve = &curves[r.below(curves.len() as u64) as usize];
+        c.tolerance = tolerance_near(r, curve, held::EDGE);
+    }
+    c
 }
 
 /// A random case with at most `long` calls where it is a long one: one in sixteen.
@@ -287,11 +287,7 @@ pub fn random(r: &mut Rng, long: u64) -> Case {
         3 | 4 => r.below(400) as f32 / 8.0,
         _ => 0.0,
     };
-    let mut c = Case { tolerance: tolerance(r, wide), scale: r.any(), phase, intervals, calls, seed: r.next() };
-    if r.one_in(EDGES) {
-        c.tolerance = tolerance_at_edge(r, &c.calls).unwrap_or(c.tolerance);
-    }
-    c
+    Case { tolerance: tolerance(r, wide), scale: r.any(), phase, intervals, calls, seed: r.next() }
 }
 
 /// A case as text, floats as 8 hexadecimal digits.

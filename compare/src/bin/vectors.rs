@@ -1,4 +1,5 @@
-//! Writes the list that the program `vectors` replays (crates/vectors/src/main.rt has its form): cases with every answer of the Rust source.
+//! Writes the list that the program `vectors` replays (crates/vectors/src/main.rt has its form): cases with every answer of the Rust source, and,
+//! which it does not say, the curves that are held back, by `held.rs`.
 //!
 //!     compare/vectors SOURCE > crates/vectors/stdin
 //!
@@ -119,15 +120,18 @@ struct Answers {
     shows: Vec<String>,
 }
 
-/// A flattened path: its polylines, and for each verb its curve's N.
+/// A flattened path: its polylines, and for each verb its curve's N and s, 0 where it is none.
 struct Flat {
     polylines: Vec<Vec<Vec2>>,
-    each: Vec<usize>,
+    each: Vec<(usize, f32)>,
 }
 
 impl Flat {
     fn points(&self) -> Vec<Vec2> {
         self.polylines.iter().flatten().copied().collect()
+    }
+    fn held(&self) -> usize {
+        self.each.iter().filter(|(_, s)| held::held(*s)).count()
     }
     fn lengths(&self) -> Vec<f32> {
         self.polylines.iter().flat_map(|l| l.windows(2)).map(|w| (w[1] - w[0]).length()).collect()
@@ -206,16 +210,36 @@ impl Answers {
         self.shows.push(format!("convex {own} {polygon} of {} repeats {repeats} curved {curved} finite {}", size(ps.len()), path.is_finite()));
     }
 
-    /// Flattens by the source, and asks for the N of every verb.
+    /// The N of a quad or a cubic by the source, and its s.
+    fn count(&mut self, pen: Vec2, p: &[Vec2], tolerance: f32) -> (usize, f32) {
+        let n = match *p {
+            [c, to] => curves::quad_segment_count(pen, c, to, tolerance) as usize,
+            [c, d, to] => curves::cubic_segment_count(pen, c, d, to, tolerance) as usize,
+            _ => unreachable!("a curve uses two or three points"),
+        };
+        let curve: Vec<case::Point> = [&[pen], p].concat().iter().map(|p| [p.x, p.y]).collect();
+        let s = held::squared(&curve, tolerance);
+        let wild = p.iter().any(|p| !p.is_finite()) || !pen.is_finite();
+        self.shows.push(format!("count {} of {} tolerance {} wild {wild}", size(n), p.len(), like(tolerance)));
+        if n == 1000 {
+            self.shows.push(format!("1,000 of {} held {} infinite {}", p.len(), held::held(s), s.is_infinite()));
+        }
+        if held::near_edge(s) {
+            let beyond = i64::from(s.to_bits()) - i64::from(held::EDGE.to_bits());
+            self.shows.push(format!("{} at {beyond} from the edge", p.len()));
+        }
+        (n, s)
+    }
+
+    /// Flattens by the source, and asks for the count of every verb.
     fn flat(&mut self, path: &Path, tolerance: f32) -> Flat {
         let (mut pen, mut start, mut each) = (Vec2::ZERO, Vec2::ZERO, Vec::new());
         for (verb, p) in path.segments() {
-            let mut n = 0;
+            let mut count = (0, 0.0);
             match verb {
                 Verb::MoveTo => start = p[0],
                 Verb::LineTo => (),
-                Verb::QuadTo => n = curves::quad_segment_count(pen, p[0], p[1], tolerance) as usize,
-                Verb::CubicTo => n = curves::cubic_segment_count(pen, p[0], p[1], p[2], tolerance) as usize,
+                Verb::QuadTo | Verb::CubicTo => count = self.count(pen, p, tolerance),
                 Verb::Close => self.shows.push(format!(
                     "close at start {} bits {} start {} {}",
                     pen == start,
@@ -224,11 +248,7 @@ impl Answers {
                     like(start.y)
                 )),
             }
-            if n > 0 {
-                let wild = p.iter().any(|p| !p.is_finite()) || !pen.is_finite();
-                self.shows.push(format!("count {} of {} tolerance {} wild {wild}", size(n), p.len(), like(tolerance)));
-            }
-            each.push(n);
+            each.push(count);
             pen = *p.last().unwrap_or(&start);
         }
         Flat { polylines: flatten(path, tolerance), each }
@@ -238,12 +258,12 @@ impl Answers {
         let (points, starts) = (flat.points(), flat.polylines.len());
         let of = |verb: Verb| path.verbs().iter().filter(|v| **v == verb).count();
         let (lines, moves) = (of(Verb::LineTo), of(Verb::MoveTo));
-        let counts: usize = flat.each.iter().sum();
+        let counts: usize = flat.each.iter().map(|(n, _)| n).sum();
         let closings = points.len() - starts - lines - counts;
         self.shows.push(format!("flat {} of {} moves, closings {}", size(starts), size(moves), closings.min(3)));
         let w = &mut self.words;
         w.n(0);
-        [starts, lines, counts, closings].iter().for_each(|n| w.n(*n));
+        [starts, lines, counts, closings, flat.held()].iter().for_each(|n| w.n(*n));
         w.points(&points);
         w.n(starts);
         let mut end = 0;
@@ -251,15 +271,18 @@ impl Answers {
             end += l.len();
             w.n(end);
         }
-        flat.each.iter().for_each(|n| w.n(*n));
+        for (n, s) in &flat.each {
+            w.n(*n);
+            w.n(usize::from(held::held(*s)));
+        }
     }
 
     /// Dashes by the source a path that is noted, so that a note tells Whole. None where the source would walk too long.
     fn dashed(&mut self, c: &Case, noted: &Path, flat: &Flat) -> Option<Path> {
         let dash = Dash::new(c.intervals.clone(), c.phase);
-        self.words.n(usize::from(dash.is_usable()));
         let sum: f32 = c.intervals.iter().sum();
-        let length: f32 = flat.lengths().iter().filter(|l| l.is_finite()).sum();
+        let lengths = flat.lengths();
+        let length: f32 = lengths.iter().filter(|l| l.is_finite()).sum();
         if dash.is_usable() && 2.1 * sum > c.tolerance && !(length / sum * (c.intervals.len() as f32) < 2000.0) {
             return None;
         }
@@ -276,25 +299,43 @@ impl Answers {
             sum.partial_cmp(&c.tolerance)
         ));
         self.shows.push(format!("whole {whole} intervals {}", c.intervals.len().min(9)));
-        self.words.n(usize::from(!whole));
         if !whole {
-            self.cut(&cut, &flat.lengths(), zeros, c.phase > sum);
+            let kinds = |f: fn(&f32) -> bool| lengths.iter().filter(|l| f(l)).count().min(2);
+            self.shows.push(format!(
+                "cut {} of {} legs, zero {} wild {} zeros {zeros} over {}",
+                size(cut.verbs().len()).min(8),
+                size(lengths.len()).min(7),
+                kinds(|l| *l == 0.0),
+                kinds(|l| !l.is_finite()),
+                c.phase > sum
+            ));
+        }
+        self.words.n(usize::from(dash.is_usable()));
+        for room in [2048, 1] {
+            self.dash_answer(&cut, flat.held(), room);
         }
         Some(cut)
     }
 
-    fn cut(&mut self, cut: &Path, lengths: &[f32], zeros: usize, over: bool) {
-        self.words.n(rule(cut));
-        self.words.verbs(cut.verbs());
-        self.words.points(cut.points());
-        let kinds = |f: fn(&f32) -> bool| lengths.iter().filter(|l| f(l)).count().min(2);
-        self.shows.push(format!(
-            "cut {} of {} legs, zero {} wild {} zeros {zeros} over {over}",
-            size(cut.verbs().len()).min(8),
-            size(lengths.len()).min(7),
-            kinds(|l| *l == 0.0),
-            kinds(|l| !l.is_finite()),
-        ));
+    /// The answer where the dash buffers take so many verbs. It has the number of curves held back only where it is Cut.
+    fn dash_answer(&mut self, cut: &Path, held: usize, room: usize) {
+        let w = &mut self.words;
+        let kind = if cut.as_rounded_rect().is_some() {
+            w.n(0);
+            "whole"
+        } else if cut.verbs().len() > room {
+            w.n(2);
+            w.n(3);
+            "no room"
+        } else {
+            w.n(1);
+            w.n(rule(cut));
+            w.n(held);
+            w.verbs(cut.verbs());
+            w.points(cut.points());
+            "cut"
+        };
+        self.shows.push(format!("{kind} held {}", held.min(2)));
     }
 }
 
@@ -318,16 +359,41 @@ fn answered(c: &Case, most: usize) -> Option<Answers> {
     (fits && a.words.0.len() <= most).then_some(a)
 }
 
+/// From this case on a curve is just held back, or just isn't.
+const FIRST_AT_EDGE: u64 = 280_000;
+
+/// What the list must show of curves that are held back: quads (2 points behind the pen) and cubics (3) at the edge, beyond it and far beyond it.
+const MUST: [&str; 13] = [
+    "1,000 of 2 held false infinite false",
+    "1,000 of 2 held true infinite false",
+    "1,000 of 2 held true infinite true",
+    "1,000 of 3 held false infinite false",
+    "1,000 of 3 held true infinite false",
+    "1,000 of 3 held true infinite true",
+    "2 at 0 from the edge",
+    "2 at 1 from the edge",
+    "3 at 0 from the edge",
+    "3 at 1 from the edge",
+    "cut held 1",
+    "no room held 1",
+    "whole held 1",
+];
+
 fn main() {
     assert!(source::keeps_first(), "the source must be built unoptimised");
     let mut seen: HashMap<String, u32> = HashMap::new();
     let mut out = std::io::BufWriter::new(std::io::stdout().lock());
     let (mut kept, mut words) = (0, 0);
-    let rounds = [(0..60_000u64, 90, 2), (60_000..200_000, 160, 1), (200_000..260_000, 500, 1), (260_000..280_000, 4000, 1)];
+    let rounds = [(0..60_000u64, 110, 2), (60_000..200_000, 190, 1), (200_000..260_000, 560, 1), (260_000..300_000, 4090, 1)];
     for (number, most, enough) in rounds.into_iter().flat_map(|(numbers, most, enough)| numbers.map(move |n| (n, most, enough))) {
-        let c = case::random(&mut Rng::new(1, number), 24);
+        let r = &mut Rng::new(1, number);
+        let mut c = case::random(r, 24);
+        if number >= FIRST_AT_EDGE {
+            c = case::at_edge(r, c);
+        }
         let Some(Answers { words: Words(w), shows }) = answered(&c, most) else { continue };
-        if most > 200 && shows.iter().filter(|s| !seen.contains_key(*s)).count() < 2 {
+        let new: Vec<&str> = shows.iter().map(String::as_str).filter(|s| !seen.contains_key(*s)).collect();
+        if most > 200 && new.len() < 2 && !new.iter().any(|s| MUST.contains(s)) {
             continue;
         }
         if shows.iter().all(|s| seen.get(s).copied().unwrap_or(0) >= enough) {
@@ -338,6 +404,9 @@ fn main() {
         w.iter().for_each(|x| out.write_all(&x.to_le_bytes()).unwrap());
         kept += 1;
         words += w.len();
+    }
+    for what in MUST {
+        assert!(seen.contains_key(what), "no case shows: {what}");
     }
     eprintln!("{kept} cases, {} bytes, {} things shown", 4 * (kept + words), seen.len());
 }

@@ -1,7 +1,8 @@
 // Replays answers of the Rust source. Standard input has a list of cases, made by `compare/vectors` (see there), in words of four bytes, low byte
 // first. A case: how many words follow; tolerance, phase and scale; the number of intervals, the intervals; the number of calls, the calls, seven
 // words each; and then every answer in the order in which `run` asks. A float is its pattern; every NaN is one here, since `from_bits` takes none.
-// The number of each case that differs is written out.
+// The source does not say which curves are held back: these answers are worked out by the list's maker. The number of each case that differs is
+// written out.
 ghost use Prim.Native.Nat.{_≤_, _<_};
 use builder::Call;
 use builder::CurrentPoint;
@@ -330,22 +331,44 @@ fn ask_flatten(data: &[u32], t: Tape, verbs: &[u8], points: &[f32], tolerance: f
     u = expect_count(data, u, r.lines);
     u = expect_count(data, u, r.counts);
     u = expect_count(data, u, r.closings);
+    u = expect_count(data, u, r.held);
     u = expect_floats(data, u, first_points(&out, r.points));
     expect_counts(data, u, first_counts(&ends, r.polylines))
 }
 
-// The N of every verb.
+// The N of every verb, and whether it was held back.
 fn ask_counts(data: &[u32], t: Tape, verbs: &[u8], points: &[f32], tolerance: f32) -> Tape {
     let mut u = t;
     let mut i: usize = 0;
     while i < verbs.len() {
         let r = flatten::carried_count(verbs, points, tolerance, i);
         u = expect_count(data, u, r.count);
+        u = expect_flag(data, u, r.held);
         i += 1;
     }
     u
 }
 
+// An answer of dashing, and what it left in the dash buffers. Only what is cut has a number of curves held back.
+fn expect_dashed(data: &[u32], t: Tape, d: Dashed, laid: &[u8], drawn: &[f32]) -> Tape {
+    match d {
+        Dashed::Whole => expect(data, t, 0),
+        Dashed::Cut(o) => {
+            let kept = o.rule;
+            let u = expect(data, t, 1);
+            let v = expect_rule(data, u, kept);
+            let w = expect_count(data, v, o.held);
+            let x = expect_bytes(data, w, first_bytes(laid, o.verbs));
+            expect_floats(data, x, first_points(drawn, o.points))
+        }
+        Dashed::Refused(n) => {
+            let u = expect(data, t, 2);
+            expect(data, u, wide(n))
+        }
+    }
+}
+
+// Dashes with room for every verb, and again with room for one, which mostly meets the second 3.
 fn ask_dash(
     data: &[u32],
     t: Tape,
@@ -359,6 +382,7 @@ fn ask_dash(
     let mut scratch = [0.0f32; 4096];
     let mut ends = [0usize; 256];
     let mut laid = [0u8; 2048];
+    let mut single = [0u8; 1];
     let mut drawn = [0.0f32; 4096];
     let usable = pattern::is_usable(intervals, phase);
     let u = expect_flag(data, t, usable);
@@ -374,17 +398,20 @@ fn ask_dash(
         &mut laid,
         &mut drawn,
     );
-    match d {
-        Dashed::Whole => expect(data, u, 0),
-        Dashed::Cut(o) => {
-            let kept = o.rule;
-            let v = expect(data, u, 1);
-            let w = expect_rule(data, v, kept);
-            let x = expect_bytes(data, w, first_bytes(&laid, o.verbs));
-            expect_floats(data, x, first_points(&drawn, o.points))
-        }
-        Dashed::Refused(_) => expect(data, u, 2),
-    }
+    let v = expect_dashed(data, u, d, &laid, &drawn);
+    let e = dash::dash_path(
+        verbs,
+        points,
+        rule,
+        intervals,
+        phase,
+        tolerance,
+        &mut scratch,
+        &mut ends,
+        &mut single,
+        &mut drawn,
+    );
+    expect_dashed(data, v, e, &single, &drawn)
 }
 
 // Fills the pattern from word i on.

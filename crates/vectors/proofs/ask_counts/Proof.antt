@@ -20,6 +20,9 @@ carried-count-requires c κs = search needs
 expect-count-requires : tie.Need-expect-count-requires Inv-loop μ-loop
 expect-count-requires c κs = search needs
 
+expect-flag-requires : tie.Need-expect-flag-requires Inv-loop μ-loop
+expect-flag-requires c κs = search needs
+
 add-i : tie.Need-add-i Inv-loop μ-loop
 add-i c = search needs
 
@@ -41,6 +44,7 @@ ask-counts-spec =
     loop-holds
     carried-count-requires
     expect-count-requires
+    expect-flag-requires
     add-i
     loop-less
     loop-again
