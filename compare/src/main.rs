@@ -15,6 +15,15 @@ use std::time::Instant;
 /// One case in so many flattens at the edge where a curve is held back. A curve has 1,000 lines there: more of these cases would cost time.
 const EDGES: u64 = 8;
 
+fn drawn(r: &mut Rng, number: u64) -> Case {
+    let c = random(r, if number % 256 == 0 { 400 } else { 60 });
+    if r.one_in(EDGES) {
+        at_edge(r, c)
+    } else {
+        c
+    }
+}
+
 /// The case without calls, intervals and numbers that it does not need to differ in the same question.
 fn smallest(mut c: Case, question: &str) -> Case {
     let differs = |c: &Case| check::case(c).is_err_and(|e| e.0 == question);
@@ -67,10 +76,7 @@ fn main() {
                 }
                 for number in from..(from + 1000).min(first + cases) {
                     let mut r = Rng::new(seed, number);
-                    let mut c = random(&mut r, if number % 256 == 0 { 400 } else { 60 });
-                    if r.one_in(EDGES) {
-                        c = at_edge(&mut r, c);
-                    }
+                    let c = drawn(&mut r, number);
                     let mut result = check::case(&c);
                     if number % 20_000 == 0 {
                         result = result.and_then(|()| check::limits(&mut r));
