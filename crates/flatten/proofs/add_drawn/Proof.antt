@@ -24,7 +24,9 @@ drawn-to-requires : tie.Need-drawn-to-requires
 drawn-to-requires c κs = search needs
 
 returns : tie.Need-returns
-returns c = cc
+returns c =
+    let b = c .before .before .before .before .before in
+    rw (b .before .as-one .ensures .0, b .as-one2 .ensures .0, c .drawn-to .ensures)
 
 pub add-drawn-spec : {M : Type 1} → statement M
 add-drawn-spec =
