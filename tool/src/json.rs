@@ -66,13 +66,9 @@ fn lists<'a>(out: &mut dyn Write, lists: impl Iterator<Item = &'a [Vec2]>, progr
     out.write_all(b"]")
 }
 
-/// The end of the totals: how many curves were held back, and after them which, by their verbs' numbers, where there are some.
+/// The end of the totals: how many curves were held back; and after them which, by their verbs' numbers.
 fn held_back(out: &mut dyn Write, held: &[Curve]) -> io::Result<()> {
-    write!(out, ",\"held\":{}}}", held.len())?;
-    if !held.is_empty() {
-        write!(out, ",\"held_curves\":{}", array(held.iter().map(|curve| curve.index)))?;
-    }
-    Ok(())
+    write!(out, ",\"held\":{}}},\"held_curves\":{}", held.len(), array(held.iter().map(|curve| curve.index)))
 }
 
 fn flattened(out: &mut dyn Write, polylines: &Polylines, held: &[Curve], order: &Order, progress: impl Fn(usize)) -> io::Result<()> {

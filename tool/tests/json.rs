@@ -164,13 +164,13 @@ fn curves_held_back_are_counted_and_listed() {
 }
 
 #[test]
-fn where_no_curve_is_held_back_only_the_total_says_so() {
+fn where_no_curve_is_held_back_the_total_is_0_and_the_list_empty() {
     let (data, _) = quad_and_conic();
     let whole = ["dash", "--style", "0", "--tolerance", "1e-6"];
     for command in [&["flatten"][..], &["dash", "--style", "1"], &whole] {
-        let ran = run(&[command, &["--json", "-d", data]].concat());
-        assert_eq!(get(get(&read(&ran.out), "totals"), "held"), &Value::Word("0".into()));
-        assert!(!ran.out.contains("held_curves"), "{command:?}");
+        let answer = read(&run(&[command, &["--json", "-d", data]].concat()).out);
+        assert_eq!(get(get(&answer, "totals"), "held"), &Value::Word("0".into()), "{command:?}");
+        assert!(list(get(&answer, "held_curves")).is_empty(), "{command:?}");
     }
     for command in ["convexity", "bounds"] {
         assert!(!run(&[command, "--json", "--tolerance", "1e-6", "-d", data]).out.contains("held"), "{command}");
