@@ -113,11 +113,12 @@ typedef struct {
     uint8_t known;
 } HzNote;
 
-/* How many segments a curve takes, and whether more were wanted than it may have. A curve that is held back looks faceted: Wang's bound asks for
- * more than HZ_MAX_SEGMENTS lines. A count of HZ_MAX_SEGMENTS alone does not say so: it is also the right one for a curve that asks for just so many. */
+/* How many segments a curve takes, and whether it was held back there: Wang's bound, or an overflow on the way to it, asks for more than
+ * HZ_MAX_SEGMENTS. Such a curve may look faceted. A count of HZ_MAX_SEGMENTS alone does not say so: it is also the right one for a curve that asks
+ * for just so many. */
 typedef struct {
     uint32_t count;           /* 1 to HZ_MAX_SEGMENTS */
-    bool held;                /* held back: s is +inf, or above 0 with its rounded root over HZ_MAX_SEGMENTS */
+    bool held;                /* held back: s is +inf, or above 0 with its rounded root over HZ_MAX_SEGMENTS; so it is exactly where s > 1,000,000 */
 } HzSegmentCount;
 
 /* A flattening's totals: points is starts + lines + counts + closings, and polylines equals starts. All 0 in a refusal. */
@@ -128,7 +129,8 @@ typedef struct {
     size_t lines;
     size_t counts;            /* the sum of all curves' N */
     size_t closings;          /* closing points that were added */
-    size_t held;              /* curves that were held back at HZ_MAX_SEGMENTS: hz_carried_count tells which */
+    size_t held;              /* curves (quads and cubics; a conic counts as its quads) that were held back at HZ_MAX_SEGMENTS: hz_carried_count at
+                                 the same tolerance tells which */
     uint8_t refused;          /* 1, 4, 5, 6 or 3, in this order */
 } HzFlattened;
 
@@ -170,7 +172,8 @@ typedef struct {
     size_t points;            /* points in the dash buffer */
     size_t scratch;           /* points in the scratch */
     size_t polylines;         /* polylines in the scratch: so many numbers in `ends` */
-    size_t held;              /* curves of the path that were held back at HZ_MAX_SEGMENTS */
+    size_t held;              /* curves of the path that were held back at HZ_MAX_SEGMENTS; the 0 of an answer that is not cut says nothing of the
+                                 path: hz_flatten at the same tolerance does */
     uint8_t kind;             /* HZ_WHOLE, HZ_CUT or HZ_REFUSED */
     uint8_t fill_rule;        /* the path's, where cut */
     uint8_t refused;          /* 1, 4, 5, 6, 8, 3 for the scratch, 3 for the dash buffers, in this order */
@@ -236,7 +239,8 @@ HzReplayed hz_replay(const uint8_t *kinds, size_t kinds_len, const float *number
 uint8_t hz_check(const uint8_t *verbs, size_t verbs_len, const float *points, size_t points_len);
 
 /* Writes the polylines' points end to end into `out`, and for each polyline the number of points at which it ends into `ends`. Measured first:
- * where either is too short nothing is written. A curve writes at most HZ_MAX_SEGMENTS points, any other verb at most one. */
+ * where either is too short nothing is written. A curve writes at most HZ_MAX_SEGMENTS points, any other verb at most one. A tolerance that is a NaN
+ * or below 2^-126 counts as 2^-126, at which nearly every curve that bends is held back. */
 HzFlattened hz_flatten(const uint8_t *verbs, size_t verbs_len, const float *points, size_t points_len, float tolerance, float *out, size_t out_len,
                        size_t *ends, size_t ends_len);
 

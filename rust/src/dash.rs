@@ -51,7 +51,8 @@ impl Dashed {
         }
     }
 
-    /// How many curves were held back when the path was flattened for the cut: 0 where it is drawn whole.
+    /// How many curves were held back when the path was flattened for the cut. It is 0 where the path is drawn whole, which says nothing of the path:
+    /// [`flatten`](crate::flatten()) at the same tolerance does.
     pub fn held(&self) -> usize {
         match self {
             Dashed::Whole => 0,

@@ -8,8 +8,8 @@ pub const DEFAULT_TOLERANCE: f32 = 0.25;
 /// The most lines of a single curve.
 pub const MAX_SEGMENTS: u32 = 1000;
 
-/// How many lines a curve becomes, and whether more were wanted than the [`MAX_SEGMENTS`] that it may have: held back, it looks faceted. A count of
-/// 1,000 alone does not say so, since it is also the right one for a curve that asks for just so many.
+/// How many lines a curve becomes, and whether it was held back at [`MAX_SEGMENTS`]: Wang's bound, or an overflow on the way to it, asks for more, and
+/// the curve may look faceted. A count of 1,000 alone does not say so, since it is also the right one for a curve that asks for just so many.
 #[repr(C)]
 #[derive(Debug, Clone, Copy, PartialEq, Eq, Hash, Default)]
 pub struct SegmentCount {
@@ -30,7 +30,7 @@ pub struct Totals {
     pub counts: usize,
     /// Added closings.
     pub closings: usize,
-    /// Curves that were held back at [`MAX_SEGMENTS`]: [`held_curves`] tells which.
+    /// Curves (quads and cubics; a conic counts as its quads) that were held back at [`MAX_SEGMENTS`]: [`held_curves`] tells which.
     pub held: usize,
 }
 

@@ -1,6 +1,6 @@
 // How many lines a curve becomes, by Wang's formula, and the points of a curve: flatten.rs.
 ghost use mathlib.Core.Path.{_≡_};
-ghost use Rattle.curve.specs.Count.{bend, second, slack, quadS, cubicS, quadCount, cubicCount, evalQuad, evalCubic, scaledTolerance};
+ghost use Rattle.curve.specs.Count.{bend, second, slack, quadS, cubicS, evalQuad, evalCubic, scaledTolerance};
 ghost use Rattle.float.specs.Count.{segmentAnswer};
 use float::SegmentCount;
 use vec2::Vec2;
@@ -64,20 +64,6 @@ pub fn cubic_segment_count(p0: Vec2, p1: Vec2, p2: Vec2, p3: Vec2, tolerance: f3
     ensures { λ r. ⌜ r ≡ segmentAnswer (cubicS tolerance p0 p1 p2 p3) ⌝ }
 {
     float::segment_count(cubic_s(p0, p1, p2, p3, tolerance))
-}
-
-// A quad's N alone, for who writes it.
-pub fn quad_count(p0: Vec2, p1: Vec2, p2: Vec2, tolerance: f32) -> u32
-    ensures { λ r. ⌜ r ≡ quadCount tolerance p0 p1 p2 ⌝ }
-{
-    float::count_only(quad_s(p0, p1, p2, tolerance))
-}
-
-// A cubic's.
-pub fn cubic_count(p0: Vec2, p1: Vec2, p2: Vec2, p3: Vec2, tolerance: f32) -> u32
-    ensures { λ r. ⌜ r ≡ cubicCount tolerance p0 p1 p2 p3 ⌝ }
-{
-    float::count_only(cubic_s(p0, p1, p2, p3, tolerance))
 }
 
 // The tolerance in curve space, from the transform's largest scale factor.

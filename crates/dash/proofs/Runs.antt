@@ -64,7 +64,6 @@ module _ (path : List Segment) (intervals : List Float) (phase tolerance : Float
         ended = ended;
         runs = rw (kept, ended) (all-runs (cycleOf intervals) (startOf (cycleOf intervals) phase (period intervals)) (polylines 0 ps es));
         held = sym (ap (λ (z : Outline). z .held) q);
-        said = ap (λ (z : Outline). z .held) q;
         same-rule = sym (ap (λ (z : Outline). z .rule) q);
       }
 
@@ -95,29 +94,3 @@ pub dash-runs : (verbs : List ℕ) (points : List Float) (rule : FillRule) (inte
 dash-runs verbs points rule intervals phase tolerance scratch ends vs fs b o e h =
     subst (λ (z : Outcome). CutIntoRuns (segments verbs points) intervals phase tolerance rule o z) (sym e)
     (answers (segments verbs points) intervals phase tolerance rule scratch ends vs fs o (refusal verbs points intervals (length scratch) (length fs)) (cuts intervals phase tolerance) (sym (ap (λ (z : Outcome). z .reply .cut) e) ∙ h))
-
--- ---- where nothing is cut, no curve is said to be held back
-
-module _ (ps : List Vec2) (es : List ℕ) (ss : List Segment) (n : ℕ) (rule : FillRule) (scratch : List Float) (ends vs : List ℕ) (fs : List Float) where
-  abbrev Silent : Outcome → Type 0
-  Silent z = z .reply .cut ≡ none → z .reply .held ≡ 0
-
-  silent-kept : (b c : Bool) → outFits ss vs fs ≡ c → Silent (keptIf b ps es ss n rule scratch ends vs fs)
-  silent-kept true true g h = absurd (Option·none-ne-some (outlineFor ss (length ps) (length es) n rule) (sym (rw g at h)))
-  silent-kept true false g h = rw g
-  silent-kept false c g h = refl
-
-  silent-answer : (k : ℕ) (c : Bool) → Silent (answered k c (keptIf (scratchFits ps es scratch ends) ps es ss n rule scratch ends vs fs) scratch ends vs fs)
-  silent-answer (suc k) c h = refl
-  silent-answer zero false h = refl
-  silent-answer zero true h = silent-kept (scratchFits ps es scratch ends) (outFits ss vs fs) refl h
-
-pub none-held : (verbs : List ℕ) (points : List Float) (rule : FillRule) (intervals : List Float) (phase tolerance : Float) (scratch : List Float) (ends vs : List ℕ) (fs : List Float) (b : Outcome)
-    → b ≡ dashing verbs points rule intervals phase tolerance scratch ends vs fs → b .reply .cut ≡ none → b .reply .held ≡ 0
-none-held verbs points rule intervals phase tolerance scratch ends vs fs b e h =
-    let path = segments verbs points in
-    let ps = pointsOut tolerance path in
-    let es = endsOut tolerance path in
-    ap (λ (z : Outcome). z .reply .held) e
-    ∙ silent-answer ps es (dashes intervals phase ps es) (heldCurves tolerance path) rule scratch ends vs fs (refusal verbs points intervals (length scratch) (length fs)) (cuts intervals phase tolerance)
-    (sym (ap (λ (z : Outcome). z .reply .cut) e) ∙ h)

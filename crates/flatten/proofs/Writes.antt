@@ -16,7 +16,9 @@ use Rattle.path.specs.declared.Segment.the-variants.{Move, Line, Quad, Cubic, C
 use Rattle.path.specs.Segment.{used, segAt, segments}
 use Rattle.path.specs.Check.{usedBy}
 use Rattle.path.proofs.Steps.{left, next-left, used-turn}
-use Rattle.curve.specs.Count.{quadCount, cubicCount, evalQuad, evalCubic, param}
+use Rattle.float.specs.declared.SegmentCount.{SegmentCount}
+use Rattle.float.specs.Count.{segmentAnswer}
+use Rattle.curve.specs.Count.{quadS, cubicS, quadCount, cubicCount, evalQuad, evalCubic, param}
 use Rattle.curve.proofs.Numbers.{counted}
 use Rattle.flatten.specs.declared.Spot.{Spot}
 use Rattle.flatten.specs.Flatten.{movedTo, drawnTo, closes, closed, after, stops, onlyIf, places, steps, curved, body, writes, written, endings, pointsOut, endsOut}
@@ -57,11 +59,11 @@ pub record Curve (ps : List Vec2) (eval : Float → Vec2) (p : Vec2) (n : ℕ) :
 long-curved : (eval : Float → Vec2) (n : ℕ) (p : Vec2) → 1 ≤ n → length (curved eval n p) ≡ n
 long-curved eval n p h = omega (arith, h, length-append (steps (λ i. eval (param i n)) 1 (pred n)) (p ∷ []), length-steps (λ i. eval (param i n)) 1 (pred n))
 
-pub a-quad : (tol : Float) (w : Spot) (c p : Vec2) (n : ℕ) → n ≡ quadCount tol (w .pen) c p → Curve (quadPoints tol w c p) (evalQuad (w .pen) c p) p n
-a-quad tol w c p n h = record { least = rw h (counted _ _ .one); most = rw h (counted _ _ .most); long = long-curved (evalQuad (w .pen) c p) (quadCount tol (w .pen) c p) p (counted _ _ .one) ∙ sym h; is = rw h }
+pub a-quad : (tol : Float) (w : Spot) (c p : Vec2) (n : SegmentCount) → n ≡ segmentAnswer (quadS tol (w .pen) c p) → Curve (quadPoints tol w c p) (evalQuad (w .pen) c p) p (n .count)
+a-quad tol w c p n h = record { least = rw h (counted _ _ .one); most = rw h (counted _ _ .most); long = long-curved (evalQuad (w .pen) c p) (quadCount tol (w .pen) c p) p (counted _ _ .one) ∙ sym (ap (λ (x : SegmentCount). x .count) h); is = rw h }
 
-pub a-cubic : (tol : Float) (w : Spot) (c d p : Vec2) (n : ℕ) → n ≡ cubicCount tol (w .pen) c d p → Curve (cubicPoints tol w c d p) (evalCubic (w .pen) c d p) p n
-a-cubic tol w c d p n h = record { least = rw h (counted _ _ .one); most = rw h (counted _ _ .most); long = long-curved (evalCubic (w .pen) c d p) (cubicCount tol (w .pen) c d p) p (counted _ _ .one) ∙ sym h; is = rw h }
+pub a-cubic : (tol : Float) (w : Spot) (c d p : Vec2) (n : SegmentCount) → n ≡ segmentAnswer (cubicS tol (w .pen) c d p) → Curve (cubicPoints tol w c d p) (evalCubic (w .pen) c d p) p (n .count)
+a-cubic tol w c d p n h = record { least = rw h (counted _ _ .one); most = rw h (counted _ _ .most); long = long-curved (evalCubic (w .pen) c d p) (cubicCount tol (w .pen) c d p) p (counted _ _ .one) ∙ sym (ap (λ (x : SegmentCount). x .count) h); is = rw h }
 
 pub wrote-curve : (w : Spot) {ps : List Vec2} {eval : Float → Vec2} {p : Vec2} {k : ℕ} → Curve ps eval p k → {l m n : List Float} {a b : ℕ} →
     Wrote l m a b (onlyIf (not (w .drawn)) (w .start)) → n ≡ sets m (2 * b) (flat (curved eval k p)) → Wrote l n a (b + k) (begun w ps)

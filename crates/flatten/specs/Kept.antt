@@ -11,7 +11,7 @@ use Rattle.path.specs.declared.Segment.{Segment}
 use Rattle.path.specs.declared.Segment.the-variants.{Move, Line, Quad, Cubic, Close}
 use Rattle.path.specs.Segment.{isDrawn, isCurve, endOf}
 use Rattle.float.specs.declared.SegmentCount.{SegmentCount}
-use Rattle.float.specs.Count.{Counted}
+use Rattle.float.specs.Count.{Counted, HeldFor}
 use Rattle.curve.specs.Count.{quadS, cubicS}
 use Rattle.flatten.specs.declared.Spot.{Spot}
 use Rattle.flatten.specs.declared.Flattened.{Flattened}
@@ -40,6 +40,14 @@ carried tol pre s = places tol (spot nowhere pre) s
 abbrev pub carriedAnswer : Float → List Segment → Segment → SegmentCount
 carriedAnswer tol pre s = record { count = carried tol pre s; held = isHeld tol (spot nowhere pre) s }
 
+-- W2: of a curve's N and whether it was held back, `HeldFor` says that it was exactly where 1,000² < s
+abbrev pub HeldAt : Float → Spot → Segment → SegmentCount → Type 0
+HeldAt tol w (Move p) a = ⊥
+HeldAt tol w (Line p) a = ⊥
+HeldAt tol w (Quad c p) a = HeldFor (quadS tol (w .pen) c p) (a .count) (a .held)
+HeldAt tol w (Cubic c d p) a = HeldFor (cubicS tol (w .pen) c d p) (a .count) (a .held)
+HeldAt tol w Close a = ⊥
+
 pub record Stands (tol : Float) (pre : List Segment) (s : Segment) (pts : List Vec2) : Type 0 where
   -- the place of the point written last before s
   pub last : ℕ
@@ -58,6 +66,9 @@ pub record Kept (tol : Float) (ss : List Segment) (t : Flattened) (pts : List Ve
   -- the N that is asked for at a curve's verb is the one that it is written with, and whether it was held back (W2) is said with it
   pub asked : (pre : List Segment) (s : Segment) (post : List Segment) → ss ≡ pre ++ s ∷ post → isCurve s ≡ true →
       countAt tol nowhere ss (length pre) ≡ carriedAnswer tol pre s
+  -- W2: and it was held back exactly where it should be
+  pub exact : (pre : List Segment) (s : Segment) (post : List Segment) → ss ≡ pre ++ s ∷ post → isCurve s ≡ true →
+      HeldAt tol (spot nowhere pre) s (carriedAnswer tol pre s)
   -- in order: a later one begins no earlier than an earlier one ends
   pub order : (pre : List Segment) (s : Segment) (mid : List Segment) (u : Segment) (post : List Segment) → ss ≡ pre ++ s ∷ (mid ++ u ∷ post) →
       isDrawn s ≡ true → isDrawn u ≡ true → length (before tol pre s) + carried tol pre s ≤ length (before tol (pre ++ s ∷ mid) u)

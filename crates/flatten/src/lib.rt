@@ -363,7 +363,7 @@ fn draw_quad(out: &mut [f32], at: usize, tolerance: f32, w: Spot, c: Vec2, p: Ve
 {
     let start = w.start;
     let pen = w.pen;
-    let n = curve::quad_count(pen, c, p, tolerance);
+    let n = curve::quad_segment_count(pen, c, p, tolerance).count;
     let a = put_if(out, at, !w.drawn, start);
     write_quad(out, a, pen, c, p, n as u16);
     a + n as usize
@@ -384,7 +384,7 @@ fn draw_cubic(
 {
     let start = w.start;
     let pen = w.pen;
-    let n = curve::cubic_count(pen, c, d, p, tolerance);
+    let n = curve::cubic_segment_count(pen, c, d, p, tolerance).count;
     let a = put_if(out, at, !w.drawn, start);
     write_cubic(out, a, pen, c, d, p, n as u16);
     a + n as usize
