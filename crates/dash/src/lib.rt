@@ -175,48 +175,8 @@ fn cut_by(
     Dashed::Cut(o)
 }
 
-// The length of a leg takes a root, so lengths are kept from the counting to the laying: few on a short path, which then does not pay for clearing
-// many.
-fn cut_few(
-    points: &[f32],
-    ends: &[usize],
-    cycle: &[f32],
-    start: Pos,
-    held: usize,
-    rule: FillRule,
-    verbs: &mut [u8],
-    floats: &mut [f32],
-) -> Dashed
-    requires { ⌜ (start .index < length (now cycle)) × Ordered (length (now points)) 0 (now ends) ⌝ }
-    ensures { λ r. ⌜ cutOutcome (answerOf r) (now (verbs .exit)) (now (floats .exit))
-        ≡ scratchOutcome (now (cycle .entry)) start (now (points .entry)) (now (ends .entry)) held rule (now (verbs .entry)) (now (floats .entry)) ⌝ }
-{
-    let mut kept = [0.0f32; 256];
-    walk::keep_lengths(points, &mut kept);
-    cut_by(points, &kept, ends, cycle, start, held, rule, verbs, floats)
-}
-
-// Many on a long one. The legs behind those that are kept are measured twice.
-fn cut_many(
-    points: &[f32],
-    ends: &[usize],
-    cycle: &[f32],
-    start: Pos,
-    held: usize,
-    rule: FillRule,
-    verbs: &mut [u8],
-    floats: &mut [f32],
-) -> Dashed
-    requires { ⌜ (start .index < length (now cycle)) × Ordered (length (now points)) 0 (now ends) ⌝ }
-    ensures { λ r. ⌜ cutOutcome (answerOf r) (now (verbs .exit)) (now (floats .exit))
-        ≡ scratchOutcome (now (cycle .entry)) start (now (points .entry)) (now (ends .entry)) held rule (now (verbs .entry)) (now (floats .entry)) ⌝ }
-{
-    let mut kept = [0.0f32; 8192];
-    walk::keep_lengths(points, &mut kept);
-    cut_by(points, &kept, ends, cycle, start, held, rule, verbs, floats)
-}
-
-// Counts and lays. Two functions make the kept lengths, since the compiler would lay their code into one place that is slower.
+// Counts and lays. The length of a leg takes a root, so lengths are kept from the counting to the laying: few on a short path, which then does not pay
+// for clearing many, and many on a long one. The legs behind those that are kept are measured twice.
 fn cut_all(
     points: &[f32],
     ends: &[usize],
@@ -232,9 +192,13 @@ fn cut_all(
         ≡ scratchOutcome (now (cycle .entry)) start (now (points .entry)) (now (ends .entry)) held rule (now (verbs .entry)) (now (floats .entry)) ⌝ }
 {
     if points.len() <= 512 {
-        return cut_few(points, ends, cycle, start, held, rule, verbs, floats);
+        let mut few = [0.0f32; 256];
+        walk::keep_lengths(points, &mut few);
+        return cut_by(points, &few, ends, cycle, start, held, rule, verbs, floats);
     }
-    cut_many(points, ends, cycle, start, held, rule, verbs, floats)
+    let mut many = [0.0f32; 8192];
+    walk::keep_lengths(points, &mut many);
+    cut_by(points, &many, ends, cycle, start, held, rule, verbs, floats)
 }
 
 // Flattens into the scratch, and lays the dashes.
