@@ -66,7 +66,7 @@ pub record Kept (tol : Float) (ss : List Segment) (t : Flattened) (pts : List Ve
   -- the N that is asked for at a curve's verb is the one that it is written with, and whether it was held back (W2) is said with it
   pub asked : (pre : List Segment) (s : Segment) (post : List Segment) → ss ≡ pre ++ s ∷ post → isCurve s ≡ true →
       countAt tol nowhere ss (length pre) ≡ carriedAnswer tol pre s
-  -- W2: and it was held back exactly where it should be
+  -- W2: and it was held back exactly where 1,000² < s
   pub exact : (pre : List Segment) (s : Segment) (post : List Segment) → ss ≡ pre ++ s ∷ post → isCurve s ≡ true →
       HeldAt tol (spot nowhere pre) s (carriedAnswer tol pre s)
   -- in order: a later one begins no earlier than an earlier one ends

@@ -180,7 +180,7 @@ fn no_count() -> SegmentCount
 }
 
 // A curve's N and whether it was held back; 0 and false for what is no curve.
-fn curve_count(tolerance: f32, w: Spot, s: Segment) -> SegmentCount
+fn curve_answer(tolerance: f32, w: Spot, s: Segment) -> SegmentCount
     ensures { λ r. ⌜ r ≡ curveAnswer tolerance w s ⌝ }
 {
     let pen = w.pen;
@@ -540,7 +540,7 @@ fn count_at(verbs: &[u8], points: &[f32], tolerance: f32, index: usize) -> Segme
         };
         let i = c.verb;
         if i == index {
-            return curve_count(tolerance, w, s);
+            return curve_answer(tolerance, w, s);
         }
         w = advance(w, s);
         c = d;

@@ -52,14 +52,14 @@ returns c =
     let a = c .before .before .before .before .before .before .before .before .args in
     count-past (a .verbs .now) (a .points .now) (l .c .verb) (l .c .point) _ _ (l .w) _ (over (c .before)) (l .inv .2) _ (c .no-count .ensures)
 
-curve-count-requires : tie.Need-curve-count-requires Inv-loop μ-loop
-curve-count-requires c κs = search needs
+curve-answer-requires : tie.Need-curve-answer-requires Inv-loop μ-loop
+curve-answer-requires c κs = search needs
 
 returns-2 : tie.Need-returns-2 Inv-loop μ-loop
 returns-2 c =
     let l = c .before .before .before .before .before .before .loop in
     let g = here (c .before .before) in
-    count-here _ _ (l .c .verb) (l .c .point) _ _ (l .w) _ (g .inside) (c .before .if1 .taken) (l .inv .2) _ (g .segment) _ (c .curve-count .ensures)
+    count-here _ _ (l .c .verb) (l .c .point) _ _ (l .w) _ (g .inside) (c .before .if1 .taken) (l .inv .2) _ (g .segment) _ (c .curve-answer .ensures)
 
 advance-requires : tie.Need-advance-requires Inv-loop μ-loop
 advance-requires c κs = search needs
@@ -92,7 +92,7 @@ count-at-spec =
     enum-told
     no-count-requires
     returns
-    curve-count-requires
+    curve-answer-requires
     returns-2
     advance-requires
     loop-less

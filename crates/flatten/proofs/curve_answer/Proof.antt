@@ -1,7 +1,7 @@
 use Rattle.flatten.proofs.Measures.{count-move, count-line, count-quad, count-cubic, count-close}
 use borrow.Author.Needs.{needs}
-use Rattle.flatten.proofs.curve_count.Statement.{statement}
-use Rattle.flatten.proofs.curve_count.Tie as tie
+use Rattle.flatten.proofs.curve_answer.Statement.{statement}
+use Rattle.flatten.proofs.curve_answer.Tie as tie
 
 enum-told : tie.Need-enum-told
 enum-told c = search needs
@@ -48,8 +48,8 @@ returns-4 c = count-cubic _ _ _ _ _ _ _ (c .before .before .s2 .given .1) (c .cu
 returns-5 : tie.Need-returns-5
 returns-5 c = count-close _ _ _ _ (c .before .enum-told3 .given .1) (c .no-count3 .ensures)
 
-pub curve-count-spec : {M : Type 1} → statement M
-curve-count-spec =
+pub curve-answer-spec : {M : Type 1} → statement M
+curve-answer-spec =
     tie.close
     (tie.spec
     enum-told
