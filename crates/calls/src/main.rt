@@ -95,7 +95,7 @@ fn floats(points: &[f32]) {
 }
 
 // A state as it is handed in.
-fn held(verbs: usize, points: usize, started: bool) -> PathBuilder {
+fn handed_in(verbs: usize, points: usize, started: bool) -> PathBuilder {
     let mut b = PathBuilder::new();
     b.verbs = verbs;
     b.points = points;
@@ -110,7 +110,7 @@ fn conic_in(name: &[u8], v: usize, k: usize)
     let mut verbs = [9u8; 66];
     let mut points = [7.0f32; 260];
     let nan = 0.0 / 0.0;
-    let mut b = held(1, 1, true);
+    let mut b = handed_in(1, 1, true);
     b.pen_x = nan;
     b.pen_y = nan;
     let r = b.conic_to(
@@ -256,13 +256,13 @@ fn outline() {
 fn limits() {
     let mut verbs = [9u8; 65538];
     let mut points = [7.0f32; 262148];
-    let b = held(65535, 2, true);
+    let b = handed_in(65535, 2, true);
     let r = b.line_to(&mut verbs, &mut points, at(1.0, 2.0));
     show(b"verb 65,536", r);
     let b = r.state;
     let r = b.line_to(&mut verbs, &mut points, at(3.0, 4.0));
     show(b"verb 65,537", r);
-    let b = held(3, 131071, true);
+    let b = handed_in(3, 131071, true);
     let r = b.line_to(&mut verbs, &mut points, at(1.0, 2.0));
     show(b"point 131,072", r);
     let b = r.state;
@@ -270,10 +270,10 @@ fn limits() {
     show(b"point 131,073", r);
     let r = b.close(&mut verbs, &mut points);
     show(b"a close needs no point", r);
-    let b = held(65537, 2, true);
+    let b = handed_in(65537, 2, true);
     let r = b.close(&mut verbs, &mut points);
     show(b"65,537 verbs handed in", r);
-    let b = held(3, 131073, true);
+    let b = handed_in(3, 131073, true);
     let r = b.close(&mut verbs, &mut points);
     show(b"131,073 points handed in", r);
     bytes(&verbs[65534..65538]);
@@ -287,7 +287,7 @@ fn odd() {
     let b = PathBuilder::new();
     let r = b.close(&mut verbs, &mut points);
     show(b"close, 5 floats", r);
-    let b = held(9, 9, false);
+    let b = handed_in(9, 9, false);
     let r = b.line_to(&mut verbs, &mut points, at(1.0, 2.0));
     show(b"line on a broken state, 5 floats", r);
 }
@@ -296,19 +296,19 @@ fn odd() {
 fn broken() {
     let mut verbs = [9u8; 4];
     let mut points = [7.0f32; 8];
-    let r = held(5, 1, true).close(&mut verbs, &mut points);
+    let r = handed_in(5, 1, true).close(&mut verbs, &mut points);
     show(b"5 verbs in 4 bytes", r);
-    let r = held(4, 5, true).line_to(&mut verbs, &mut points, at(1.0, 2.0));
+    let r = handed_in(4, 5, true).line_to(&mut verbs, &mut points, at(1.0, 2.0));
     show(b"5 points in 8 floats, no room", r);
-    let r = held(0, 1, true).move_to(&mut verbs, &mut points, at(1.0, 2.0));
+    let r = handed_in(0, 1, true).move_to(&mut verbs, &mut points, at(1.0, 2.0));
     show(b"started without a verb", r);
-    let r = held(1, 1, false).move_to(&mut verbs, &mut points, at(1.0, 2.0));
+    let r = handed_in(1, 1, false).move_to(&mut verbs, &mut points, at(1.0, 2.0));
     show(b"a verb and not started", r);
-    let r = held(1, 0, true).move_to(&mut verbs, &mut points, at(1.0, 2.0));
+    let r = handed_in(1, 0, true).move_to(&mut verbs, &mut points, at(1.0, 2.0));
     show(b"started without a point", r);
-    let r = held(4, 4, true).move_to(&mut verbs, &mut points, at(1.0, 2.0));
+    let r = handed_in(4, 4, true).move_to(&mut verbs, &mut points, at(1.0, 2.0));
     show(b"full", r);
-    let r = held(0, 2, false).move_to(&mut verbs, &mut points, at(1.0, 2.0));
+    let r = handed_in(0, 2, false).move_to(&mut verbs, &mut points, at(1.0, 2.0));
     show(b"not started, with points", r);
     bytes(&verbs);
     floats(&points);

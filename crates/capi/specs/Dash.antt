@@ -10,7 +10,7 @@ use Rattle.path.specs.declared.FillRule.{FillRule}
 use Rattle.dash.specs.declared.Outline.{Outline}
 use Rattle.dash.specs.declared.Dashed.{Dashed}
 use Rattle.dash.specs.declared.Dashed.the-variants.{Whole, Cut, Refused}
-use Rattle.dash.specs.Answer.{Answer, answerOf, heldIn}
+use Rattle.dash.specs.Answer.{Answer, answerOf}
 use Rattle.dash.specs.Dash.{Outcome, dashing}
 use Rattle.dash.specs.Outline.{outlineOf}
 use Rattle.capi.specs.declared.HzDashed.{HzDashed}
@@ -39,7 +39,7 @@ valuesOut none a = a
 valuesOut (some o) a = cutOut o
 
 abbrev pub dashedOut : Answer → HzDashed
-dashedOut a = valuesOut (a .cut) (uncut (cond (a .whole) 0 2) (heldIn (a .cut)) (a .number))
+dashedOut a = valuesOut (a .cut) (uncut (cond (a .whole) 0 2) (a .held) (a .number))
 
 -- the answer, and what the four lent buffers hold afterwards
 pub record HzDashing : Type 0 where

@@ -580,7 +580,7 @@ pub struct HzOutline {
     pub from_dash: u8,
 }
 
-fn not_cut(kind: u8, refused: u8) -> HzDashed
+fn uncut(kind: u8, refused: u8) -> HzDashed
     ensures { λ r. ⌜ r ≡ uncut kind 0 refused ⌝ }
 {
     HzDashed {
@@ -615,9 +615,9 @@ fn dashed_out(d: Dashed) -> HzDashed
     ensures { λ r. ⌜ r ≡ dashedOut (answerOf d) ⌝ }
 {
     match d {
-        Dashed::Whole => not_cut(0, 0),
+        Dashed::Whole => uncut(0, 0),
         Dashed::Cut(o) => cut_out(o),
-        Dashed::Refused(n) => not_cut(2, n),
+        Dashed::Refused(n) => uncut(2, n),
     }
 }
 

@@ -11,24 +11,21 @@ pub record Answer : Type 0 where
   pub number : ℕ
   -- the drawn outline is the path's own part
   pub whole : Bool
+  -- W2: how many curves were held back, 0 for Whole and beside a refusal
+  pub held : ℕ
   -- what is cut: how much of the dash buffers and the scratch is filled, how many curves were held back, and the fill rule
   pub cut : Option Outline
 
 abbrev pub refusedBy : ℕ → Answer
-refusedBy n = record { number = n; whole = false; cut = none }
+refusedBy n = record { number = n; whole = false; held = 0; cut = none }
 
 abbrev pub drawnWhole : Answer
-drawnWhole = record { number = 0; whole = true; cut = none }
+drawnWhole = record { number = 0; whole = true; held = 0; cut = none }
 
 abbrev pub cutInto : Outline → Answer
-cutInto o = record { number = 0; whole = false; cut = some o }
+cutInto o = record { number = 0; whole = false; held = o .held; cut = some o }
 
 abbrev pub answerOf : Dashed → Answer
 answerOf Whole = drawnWhole
 answerOf (Cut o) = cutInto o
 answerOf (Refused n) = refusedBy n
-
--- W2: the number of held curves that an answer carries, by what is cut: 0 for Whole, and beside a refusal
-abbrev pub heldIn : Option Outline → ℕ
-heldIn none = 0
-heldIn (some o) = o .held

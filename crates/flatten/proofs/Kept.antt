@@ -1,7 +1,7 @@
 -- Demand 3's flattening half over a list of segments (`kept`), and over the answer and the outputs of a call that is not refused (`call-kept`).
 -- Assumes nothing.
 use mathlib.Core.Path.{_≡_, refl, ap, _∙_}
-use mathlib.Core.Bool.{Bool, true, false, not, cond, false≢true}
+use mathlib.Core.Bool.{Bool, true, false, not, cond}
 use mathlib.Core.List.{List}
 use Prim.Native.Nat.{ℕ, zero, suc, _*_, _/_, _%_, _≤_}
 use native.Mathlib.Omega.{arith}
@@ -14,7 +14,7 @@ use Rattle.vec2.specs.Points.{flat, pointsIn}
 use Rattle.vec2.proofs.Points.{length-flat, pointsIn-flat}
 use Rattle.path.specs.declared.Segment.{Segment}
 use Rattle.path.specs.declared.Segment.the-variants.{Move, Line, Quad, Cubic, Close}
-use Rattle.path.specs.Segment.{isCurve, segments}
+use Rattle.path.specs.Segment.{segments}
 use Rattle.path.specs.Check.{badPath}
 use Rattle.curve.proofs.Numbers.{held-for}
 use Rattle.flatten.specs.declared.Spot.{Spot}
@@ -25,21 +25,21 @@ use Rattle.flatten.proofs.Ends.{stands, in-order}
 use Rattle.flatten.proofs.Counts.{asked}
 use Rattle.flatten.proofs.Call.{first-false}
 
--- a curve's held is where it should be
-held-at : (tol : Float) (w : Spot) (s : Segment) → isCurve s ≡ true → HeldAt tol w s (record { count = places tol w s; held = isHeld tol w s })
+-- held back where it should be
+held-at : (tol : Float) (w : Spot) (s : Segment) → HeldAt tol w s (record { count = places tol w s; held = isHeld tol w s })
 unfolding places isHeld
-held-at tol w (Move p) h = absurd (false≢true h)
-held-at tol w (Line p) h = absurd (false≢true h)
-held-at tol w (Quad c p) h = held-for _ _
-held-at tol w (Cubic c d p) h = held-for _ _
-held-at tol w Close h = absurd (false≢true h)
+held-at tol w (Move p) = refl
+held-at tol w (Line p) = refl
+held-at tol w (Quad c p) = held-for _ _
+held-at tol w (Cubic c d p) = held-for _ _
+held-at tol w Close = refl
 
 pub kept : (tol : Float) (ss : List Segment) → Kept tol ss (told tol ss) (pointsOut tol ss) (endsOut tol ss)
 kept tol ss =
     record {
       stand = λ pre s post e h. rw e (stands tol pre s post h);
       asked = λ pre s post e h. rw e (asked tol pre s post h);
-      exact = λ pre s post e h. held-at tol (spot nowhere pre) s h;
+      exact = λ pre s post e. held-at tol (spot nowhere pre) s;
       order = λ pre s mid u post e h g. in-order tol pre s mid u h;
       all = refl;
       polylines = polylines-are-starts tol ss;

@@ -1,8 +1,8 @@
 -- Demand 3's flattening half over a list of segments: where the end of each line and curve stands, and the totals. Definitions only.
 use mathlib.Core.Path.{_≡_}
 use Prim.Native.Nat.{ℕ, suc, _+_, _≤_, _<_}
-use mathlib.Core.Bool.{true}
-use mathlib.Core.List.{List, [], _∷_, _++_}
+use mathlib.Core.Bool.{true, false}
+use mathlib.Core.List.{List, _∷_, _++_}
 use lib.ListN.{length, getD, take}
 use lib.Ieee.{Float}
 use Rattle.vec2.specs.declared.Vec2.{Vec2}
@@ -40,13 +40,13 @@ carried tol pre s = places tol (spot nowhere pre) s
 abbrev pub carriedAnswer : Float → List Segment → Segment → SegmentCount
 carriedAnswer tol pre s = record { count = carried tol pre s; held = isHeld tol (spot nowhere pre) s }
 
--- W2: of a curve's N and whether it was held back, `HeldFor` says that it was exactly where 1,000² < s
+-- W2: a curve was held back exactly where 1,000² < s (`HeldFor`), and nothing else ever is
 abbrev pub HeldAt : Float → Spot → Segment → SegmentCount → Type 0
-HeldAt tol w (Move p) a = ⊥
-HeldAt tol w (Line p) a = ⊥
+HeldAt tol w (Move p) a = a .held ≡ false
+HeldAt tol w (Line p) a = a .held ≡ false
 HeldAt tol w (Quad c p) a = HeldFor (quadS tol (w .pen) c p) (a .count) (a .held)
 HeldAt tol w (Cubic c d p) a = HeldFor (cubicS tol (w .pen) c d p) (a .count) (a .held)
-HeldAt tol w Close a = ⊥
+HeldAt tol w Close a = a .held ≡ false
 
 pub record Stands (tol : Float) (pre : List Segment) (s : Segment) (pts : List Vec2) : Type 0 where
   -- the place of the point written last before s
@@ -66,8 +66,8 @@ pub record Kept (tol : Float) (ss : List Segment) (t : Flattened) (pts : List Ve
   -- the N that is asked for at a curve's verb is the one that it is written with, and whether it was held back (W2) is said with it
   pub asked : (pre : List Segment) (s : Segment) (post : List Segment) → ss ≡ pre ++ s ∷ post → isCurve s ≡ true →
       countAt tol nowhere ss (length pre) ≡ carriedAnswer tol pre s
-  -- W2: and it was held back exactly where 1,000² < s
-  pub exact : (pre : List Segment) (s : Segment) (post : List Segment) → ss ≡ pre ++ s ∷ post → isCurve s ≡ true →
+  -- W2: and of all that is laid, just the curves with 1,000² < s were held back
+  pub exact : (pre : List Segment) (s : Segment) (post : List Segment) → ss ≡ pre ++ s ∷ post →
       HeldAt tol (spot nowhere pre) s (carriedAnswer tol pre s)
   -- in order: a later one begins no earlier than an earlier one ends
   pub order : (pre : List Segment) (s : Segment) (mid : List Segment) (u : Segment) (post : List Segment) → ss ≡ pre ++ s ∷ (mid ++ u ∷ post) →

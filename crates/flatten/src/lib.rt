@@ -249,12 +249,12 @@ fn add_segment(g: Gauge, tolerance: f32, s: Segment) -> Gauge
         },
         Segment::Line(p) => add_drawn(g, p, 1, 0, false),
         Segment::Quad(c, p) => {
-            let n = curve::quad_segment_count(pen, c, p, tolerance);
-            add_drawn(g, p, 0, n.count as usize, n.held)
+            let quad = curve::quad_segment_count(pen, c, p, tolerance);
+            add_drawn(g, p, 0, quad.count as usize, quad.held)
         }
         Segment::Cubic(c, d, p) => {
-            let n = curve::cubic_segment_count(pen, c, d, p, tolerance);
-            add_drawn(g, p, 0, n.count as usize, n.held)
+            let cubic = curve::cubic_segment_count(pen, c, d, p, tolerance);
+            add_drawn(g, p, 0, cubic.count as usize, cubic.held)
         }
         Segment::Close => add_close(g),
     }
