@@ -36,7 +36,8 @@ Builds =
 abbrev pub flattening : List Call → List ℕ → List Float → Float → List Float → List ℕ → flat.Outcome
 flattening cs bs fs tolerance out ends = flat.flatten (pathVerbs (built cs bs fs)) (pathFloats (built cs bs fs)) tolerance out ends
 
--- A flattening that isn't refused loses or shifts no end point of the laid list.
+-- A flattening that isn't refused loses or shifts no end point of the laid list, and its totals, W2's number of held curves among them, are counted on that
+-- list.
 abbrev pub Flattens : Type 0
 Flattens =
     (cs : List Call) (bs : List ℕ) (fs : List Float) (tolerance : Float) (out : List Float) (ends : List ℕ) →

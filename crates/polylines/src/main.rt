@@ -176,37 +176,66 @@ fn middles() -> bool {
 
 // ---- held back
 
+// At this tolerance a quad whose second difference is 1 wants 1,000 lines, and one whose is 2 wants more.
+const TIGHT: f32 = 3.539e-7;
+
+const TWO_QUADS: [f32; 10] = [0.0, 0.0, 0.0, 0.0, 1.0, 0.0, 1.0, 0.0, 3.0, 0.0];
+
 // Two quads of 1,000 lines each: of the first no more are wanted, the second is held back.
 fn held_back() -> bool {
-    let points: [f32; 10] = [0.0, 0.0, 0.0, 0.0, 1.0, 0.0, 1.0, 0.0, 3.0, 0.0];
+    let points = TWO_QUADS;
     let mut out = [7.0f32; 4002];
     let mut ends = [99usize; 1];
-    let r = flatten::flatten(&[0, 2, 2], &points, 3.539e-7, &mut out, &mut ends);
+    let r = flatten::flatten(&[0, 2, 2], &points, TIGHT, &mut out, &mut ends);
     r.counts == 2000 && r.held == 1 && r.refused == 0 && ends[0] == 2001
 }
 
-// One point short: nothing is said of it.
+// A quad held back in each of two polylines, with a line behind the second.
+fn two_held_back() -> bool {
+    let points: [f32; 14] = [
+        0.0,
+        0.0,
+        0.0,
+        0.0,
+        2.0,
+        0.0,
+        5.0,
+        0.0,
+        5.0,
+        0.0,
+        7.0,
+        0.0,
+        8.0,
+        0.0,
+    ];
+    let mut out = [7.0f32; 4006];
+    let mut ends = [99usize; 2];
+    let r = flatten::flatten(&[0, 2, 0, 2, 1], &points, TIGHT, &mut out, &mut ends);
+    r.counts == 2000 && r.held == 2 && r.refused == 0 && ends[0] == 1001 && ends[1] == 2003
+}
+
+// One point short: a refusal says 0.
 fn held_and_refused() -> bool {
-    let points: [f32; 10] = [0.0, 0.0, 0.0, 0.0, 1.0, 0.0, 1.0, 0.0, 3.0, 0.0];
+    let points = TWO_QUADS;
     let mut out = [7.0f32; 4000];
     let mut ends = [99usize; 1];
-    let r = flatten::flatten(&[0, 2, 2], &points, 3.539e-7, &mut out, &mut ends);
+    let r = flatten::flatten(&[0, 2, 2], &points, TIGHT, &mut out, &mut ends);
     r.counts == 0 && r.held == 0 && r.refused == 3 && ends[0] == 99
 }
 
 // Which curve it is, asked verb by verb; no other is.
 fn held_at() -> bool {
-    let points: [f32; 10] = [0.0, 0.0, 0.0, 0.0, 1.0, 0.0, 1.0, 0.0, 3.0, 0.0];
-    let start = flatten::carried_count(&[0, 2, 2], &points, 3.539e-7, 0);
-    let full = flatten::carried_count(&[0, 2, 2], &points, 3.539e-7, 1);
-    let held = flatten::carried_count(&[0, 2, 2], &points, 3.539e-7, 2);
-    let past = flatten::carried_count(&[0, 2, 2], &points, 3.539e-7, 3);
-    let bad = flatten::carried_count(&[0, 2, 5], &points, 3.539e-7, 2);
+    let points = TWO_QUADS;
+    let start = flatten::carried_count(&[0, 2, 2], &points, TIGHT, 0);
+    let full = flatten::carried_count(&[0, 2, 2], &points, TIGHT, 1);
+    let held = flatten::carried_count(&[0, 2, 2], &points, TIGHT, 2);
+    let past = flatten::carried_count(&[0, 2, 2], &points, TIGHT, 3);
+    let bad = flatten::carried_count(&[0, 2, 5], &points, TIGHT, 2);
     let counted = full.count == 1000 && held.count == 1000 && held.held && !full.held;
     counted && !start.held && !past.held && !bad.held && bad.refused == 5
 }
 
-// An infinite s, and a cubic of which the second difference alone asks for more; −∞ is no length, and a NaN none either.
+// An infinite s is held back, and a cubic of which either difference alone asks for more, the other a NaN too; −∞ and a NaN are not.
 fn held_curves() -> bool {
     let o = Vec2::zero();
     let one = Vec2::new(1.0, 0.0);
@@ -214,12 +243,26 @@ fn held_curves() -> bool {
     let endless = curve::quad_segment_count(o, one, Vec2::new(1.0 / 0.0, 0.0), 0.25);
     let behind = curve::cubic_segment_count(o, one, two, Vec2::new(1.0e6, 0.0), 0.25);
     let before = curve::cubic_segment_count(Vec2::new(1.0e6, 0.0), two, one, o, 0.25);
+    let half = curve::cubic_segment_count(o, one, two, Vec2::new(1.0e6, 0.0 / 0.0), 0.25);
+    let other = curve::cubic_segment_count(
+        Vec2::new(0.0 / 0.0, 0.0),
+        o,
+        o,
+        Vec2::new(1.0e6, 0.0),
+        0.25,
+    );
     let below = float::segment_count(-1.0 / 0.0);
     let lost = float::segment_count(0.0 / 0.0);
     let exact = float::segment_count(1000000.0);
     let next = float::segment_count(1000000.06);
-    let held = endless.held && behind.held && before.held && next.held;
-    held && !below.held && !lost.held && !exact.held && exact.count == 1000 && next.count == 1000
+    let held = endless.held && behind.held && before.held && other.held && next.held;
+    held
+        && !half.held
+        && !below.held
+        && !lost.held
+        && !exact.held
+        && exact.count == 1000
+        && next.count == 1000
 }
 
 // ---- closing
@@ -388,6 +431,7 @@ fn main() {
     say(counts(), b"carried counts 5, 1, 9, none");
     say(odd_counts(), b"counts of NaN, no tolerance and too far");
     say(held_back(), b"one of two curves held back");
+    say(two_held_back(), b"two curves held back");
     say(held_and_refused(), b"none held back in a refusal");
     say(held_at(), b"the verb of a curve that is held back");
     say(
