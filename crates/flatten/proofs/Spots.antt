@@ -13,9 +13,9 @@ module _ (w : Spot) where
   undrawn h = rw h
 
   module _ (h : w .drawn ≡ true) where
-    pub held : sameAs (w .start) (w .start) ≡ true → not (sameAs (w .last) (w .start)) ≡ closes w
+    pub start-same : sameAs (w .start) (w .start) ≡ true → not (sameAs (w .last) (w .start)) ≡ closes w
     unfolding closes
-    held k = rw (h, k)
+    start-same k = rw (h, k)
 
     pub a-nan : sameAs (w .start) (w .start) ≡ false → false ≡ closes w
     unfolding closes

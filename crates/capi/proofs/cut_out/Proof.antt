@@ -7,7 +7,7 @@ rule-out-requires : tie.Need-rule-out-requires
 rule-out-requires c κs = search needs
 
 returns : tie.Need-returns
-returns c = cc
+returns c = rw (c .rule-out .ensures)
 
 pub cut-out-spec : {M : Type 1} → statement M
 cut-out-spec = tie.close (tie.spec rule-out-requires returns)

@@ -1,7 +1,7 @@
 use mathlib.Core.Path.{sym, _∙_, ap}
 use mathlib.Core.Bool.{not}
 use borrow.Author.Tests.{not-true, not-false}
-use Rattle.flatten.proofs.Spots.{undrawn, held, a-nan}
+use Rattle.flatten.proofs.Spots.{undrawn, start-same, a-nan}
 use borrow.Author.Needs.{needs}
 use Rattle.flatten.proofs.close_adds.Statement.{statement}
 use Rattle.flatten.proofs.close_adds.Tie as tie
@@ -16,7 +16,7 @@ same-requires-2 : tie.Need-same-requires-2
 same-requires-2 c κs = search needs
 
 returns-2 : tie.Need-returns-2
-returns-2 c = ap not (c .same2 .ensures) ∙ held _ (not-false _ (c .before .before .before .if1 .left)) (sym (c .before .before .same .ensures) ∙ c .before .if2 .taken)
+returns-2 c = ap not (c .same2 .ensures) ∙ start-same _ (not-false _ (c .before .before .before .if1 .left)) (sym (c .before .before .same .ensures) ∙ c .before .if2 .taken)
 
 returns-3 : tie.Need-returns-3
 returns-3 c = a-nan _ (not-false _ (c .before .before .if1 .left)) (sym (c .before .same .ensures) ∙ c .if2 .left)

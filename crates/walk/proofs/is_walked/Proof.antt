@@ -7,14 +7,14 @@ use Rattle.walk.proofs.Positive.{above-walks, none-walks}
 use Rattle.walk.proofs.is_walked.Statement.{statement}
 use Rattle.walk.proofs.is_walked.Tie as tie
 
-held-by : (c : tie.Start) → T (fits binary32 (c .args .length))
-held-by c = subst T (sym (c .good .0 .1)) tt
+fits-by : (c : tie.Start) → T (fits binary32 (c .args .length))
+fits-by c = subst T (sym (c .good .0 .1)) tt
 
 float-to-bits-result : tie.Need-float-to-bits-result
 float-to-bits-result c = no-nan (c .before .args .length) (above-of-test (c .before .args .length) (c .if1 .taken))
 
 returns : tie.Need-returns
-returns c = above-walks (c .before .args .length) (held-by (c .before)) (above-of-test (c .before .args .length) (c .if1 .taken))
+returns c = above-walks (c .before .args .length) (fits-by (c .before)) (above-of-test (c .before .args .length) (c .if1 .taken))
 
 returns-2 : tie.Need-returns-2
 returns-2 c = none-walks (c .before .args .length) (none-of-test (c .before .args .length) (c .if1 .left))
