@@ -1,5 +1,5 @@
 //! Asks the library for what a command wants.
-use crate::canvas::Curve;
+use crate::curve::Curve;
 use crate::held;
 use crate::options::{Command, Options};
 use crate::order::Order;

@@ -1,6 +1,7 @@
 //! From an outline's coordinates to the picture's pixels, and lines in SVG.
 //!
 //! What isn't finite has no place in a picture: a line or curve with such a point is left out.
+use crate::curve::{curves, Curve, Pen};
 use hizlaou::{Path, Polylines, Vec2, Verb};
 use std::fmt::Write;
 
@@ -45,43 +46,6 @@ fn on_curve(points: &[(f64, f64)], t: f64) -> (f64, f64) {
         row = row.windows(2).map(|w| (w[0].0 + (w[1].0 - w[0].0) * t, w[0].1 + (w[1].1 - w[0].1) * t)).collect();
     }
     row.first().copied().unwrap_or_default()
-}
-
-/// Where the pen stands along a path.
-#[derive(Default)]
-struct Pen {
-    at: Vec2,
-    start: Vec2,
-}
-
-impl Pen {
-    fn follow(&mut self, verb: Verb, points: &[Vec2]) {
-        self.at = points.last().copied().unwrap_or(self.start);
-        if verb == Verb::MoveTo {
-            self.start = self.at;
-        }
-    }
-}
-
-/// A curve of a path.
-#[derive(Debug, Clone, PartialEq)]
-pub struct Curve {
-    /// Its verb's number in the path, from 0.
-    pub index: usize,
-    pub verb: Verb,
-    /// Its start, its control points and its end.
-    pub points: Vec<Vec2>,
-}
-
-/// The curves of a path, first to last.
-pub fn curves(path: &Path) -> impl Iterator<Item = Curve> + '_ {
-    let mut pen = Pen::default();
-    path.segments().enumerate().filter_map(move |(index, (verb, to))| {
-        let from = pen.at;
-        pen.follow(verb, to);
-        let is_curve = matches!(verb, Verb::QuadTo | Verb::CubicTo);
-        is_curve.then(|| Curve { index, verb, points: std::iter::once(from).chain(to.iter().copied()).collect() })
-    })
 }
 
 /// How coordinates become pixels.

@@ -1,5 +1,5 @@
 //! Curves that the library held back at the most pieces it gives a curve, and the words for them.
-use crate::canvas::{curves, Curve};
+use crate::curve::{curves, Curve};
 use crate::number::{count, place};
 use hizlaou::{held_curves, Path, Vec2, Verb, MAX_SEGMENTS};
 

@@ -1,6 +1,6 @@
 //! Answers as JSON, one object on one line. `number` says how floats are written.
 use crate::answer::Answer;
-use crate::canvas::Curve;
+use crate::curve::Curve;
 use crate::number::Json;
 use crate::order::{rule_name, Order};
 use crate::text::{letter, runs_of};

@@ -1,6 +1,7 @@
 //! hizlaou: see what a unit will put to air, before it does. `help` has the manual.
 mod answer;
 mod canvas;
+mod curve;
 mod held;
 mod help;
 mod json;

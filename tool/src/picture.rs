@@ -1,6 +1,7 @@
 //! The preview: outline, runs, flattened points and corners, under loud warnings and over a legend.
 use crate::answer::Answer;
-use crate::canvas::{px, Curve, Extent, Fit};
+use crate::canvas::{px, Extent, Fit};
+use crate::curve::Curve;
 use crate::held::which;
 use crate::json::runs;
 use crate::legend;

@@ -1,6 +1,6 @@
 //! Answers as text for people.
 use crate::answer::Answer;
-use crate::canvas::Curve;
+use crate::curve::Curve;
 use crate::held;
 use crate::number::{count, Exact};
 use crate::order::{rule_name, Order};

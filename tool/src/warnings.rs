@@ -1,6 +1,6 @@
 //! The loud warnings: drawn whole, a dash or a gap that runs on, curves that look faceted.
 use crate::answer::Answer;
-use crate::canvas::Curve;
+use crate::curve::Curve;
 use crate::held::{in_words, which};
 use crate::number::{count, place, Exact};
 use crate::walk::{Place, RunOn};
