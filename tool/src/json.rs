@@ -66,9 +66,15 @@ fn lists<'a>(out: &mut dyn Write, lists: impl Iterator<Item = &'a [Vec2]>, progr
     out.write_all(b"]")
 }
 
-/// The end of the totals: how many curves were held back; and after them which, by their verbs' numbers.
-fn held_back(out: &mut dyn Write, held: &[Curve]) -> io::Result<()> {
-    write!(out, ",\"held\":{}}},\"held_curves\":{}", held.len(), array(held.iter().map(|curve| curve.index)))
+/// The totals: a number for each name.
+fn totals(out: &mut dyn Write, numbers: &[(&str, usize)]) -> io::Result<()> {
+    let members: Vec<String> = numbers.iter().map(|(name, number)| format!("\"{name}\":{number}")).collect();
+    write!(out, ",\"totals\":{{{}}}", members.join(","))
+}
+
+/// The curves that were held back, by their verbs' numbers.
+fn held_curves(out: &mut dyn Write, held: &[Curve]) -> io::Result<()> {
+    write!(out, ",\"held_curves\":{}", array(held.iter().map(|curve| curve.index)))
 }
 
 fn flattened(out: &mut dyn Write, polylines: &Polylines, held: &[Curve], order: &Order, progress: impl Fn(usize)) -> io::Result<()> {
@@ -76,12 +82,17 @@ fn flattened(out: &mut dyn Write, polylines: &Polylines, held: &[Curve], order: 
     out.write_all(b",\"polylines\":")?;
     lists(out, polylines.iter(), progress)?;
     let t = polylines.totals();
-    write!(
-        out,
-        ",\"totals\":{{\"points\":{},\"polylines\":{},\"starts\":{},\"lines\":{},\"counts\":{},\"closings\":{}",
-        t.points, t.polylines, t.starts, t.lines, t.counts, t.closings
-    )?;
-    held_back(out, held)
+    let numbers = [
+        ("points", t.points),
+        ("polylines", t.polylines),
+        ("starts", t.starts),
+        ("lines", t.lines),
+        ("counts", t.counts),
+        ("closings", t.closings),
+        ("held", held.len()),
+    ];
+    totals(out, &numbers)?;
+    held_curves(out, held)
 }
 
 fn ordered(out: &mut dyn Write, order: &Order, kind: &str) -> io::Result<()> {
@@ -97,9 +108,9 @@ fn ordered(out: &mut dyn Write, order: &Order, kind: &str) -> io::Result<()> {
     )
 }
 
-/// A path's totals, to which more can be added: they are not closed.
-fn totals_of(out: &mut dyn Write, path: &Path) -> io::Result<()> {
-    write!(out, ",\"totals\":{{\"verbs\":{},\"points\":{}", path.verbs().len(), path.points().len())
+/// How many verbs and points a path has.
+fn size_of(path: &Path) -> [(&'static str, usize); 2] {
+    [("verbs", path.verbs().len()), ("points", path.points().len())]
 }
 
 fn whole(out: &mut dyn Write, reason: &str, held: &[Curve], path: &Path, order: &Order) -> io::Result<()> {
@@ -113,8 +124,9 @@ fn whole(out: &mut dyn Write, reason: &str, held: &[Curve], path: &Path, order: 
         out.write_all(b"]")?;
     }
     out.write_all(b"]")?;
-    totals_of(out, path)?;
-    held_back(out, held)
+    let [verbs, points] = size_of(path);
+    totals(out, &[verbs, points, ("held", held.len())])?;
+    held_curves(out, held)
 }
 
 fn cut(
@@ -131,11 +143,20 @@ fn cut(
     lists(out, runs(dashes), progress)?;
     let run_ons = if found.agrees { array(found.run_ons.iter().map(run_on)) } else { "null".into() };
     let dashes_on = found.run_ons.iter().filter(|r| r.is_dash).count();
-    write!(out, ",\"run_ons\":{run_ons},\"totals\":{{\"runs\":{},\"verbs\":{}", runs_of(dashes), dashes.verbs().len())?;
-    write!(out, ",\"points\":{},\"polylines\":{}", dashes.points().len(), polylines.len())?;
-    write!(out, ",\"flattened_points\":{},\"dashes_running_on\":{dashes_on}", polylines.totals().points)?;
-    write!(out, ",\"gaps_running_on\":{}", found.run_ons.len() - dashes_on)?;
-    held_back(out, held)
+    write!(out, ",\"run_ons\":{run_ons}")?;
+    let [verbs, points] = size_of(dashes);
+    let numbers = [
+        ("runs", runs_of(dashes)),
+        verbs,
+        points,
+        ("polylines", polylines.len()),
+        ("flattened_points", polylines.totals().points),
+        ("dashes_running_on", dashes_on),
+        ("gaps_running_on", found.run_ons.len() - dashes_on),
+        ("held", held.len()),
+    ];
+    totals(out, &numbers)?;
+    held_curves(out, held)
 }
 
 /// The points of each run. Every verb of dashes uses one point, and a move begins a run.
@@ -165,16 +186,14 @@ fn run_on(r: &RunOn) -> String {
 
 fn shape(out: &mut dyn Write, convexity: Convexity, path: &Path, order: &Order) -> io::Result<()> {
     write!(out, "{{\"command\":\"convexity\",\"rule\":\"{}\",\"convexity\":\"{convexity:?}\"", rule_name(order.rule))?;
-    totals_of(out, path)?;
-    out.write_all(b"}")
+    totals(out, &size_of(path))
 }
 
 fn bounds(out: &mut dyn Write, rect: &Rect, is_finite: bool, is_in_range: bool, path: &Path, order: &Order) -> io::Result<()> {
     write!(out, "{{\"command\":\"bounds\",\"rule\":\"{}\",\"min\":{},\"max\":{}", rule_name(order.rule), point(rect.min), point(rect.max))?;
     write!(out, ",\"width\":{},\"height\":{},\"empty\":{}", Json(rect.width()), Json(rect.height()), rect.is_empty())?;
     write!(out, ",\"finite\":{is_finite},\"in_range\":{is_in_range}")?;
-    totals_of(out, path)?;
-    out.write_all(b"}")
+    totals(out, &size_of(path))
 }
 
 #[cfg(test)]
