@@ -1,6 +1,5 @@
 //! Asks the library for what a command wants.
-use crate::curve::Curve;
-use crate::held;
+use crate::held::{self, Held};
 use crate::options::{Command, Options};
 use crate::order::Order;
 use crate::outline::Outline;
@@ -8,11 +7,11 @@ use crate::progress::Progress;
 use crate::walk::{self, Found};
 use hizlaou::{dash_path, flatten, line_style, tolerance_for_scale, Convexity, Dash, Dashed, Path, Polylines, Rect, Refusal};
 
-/// An answer of the library, with what the tool found out beside it.
+/// An answer of the library, with what the tool found out beside it. What is drawn whole has polylines only for a picture, which shows its points.
 pub enum Answer {
-    Flattened { polylines: Polylines, held: Vec<Curve> },
-    Whole { reason: String, held: Vec<Curve> },
-    Cut { dashes: Path, polylines: Polylines, found: Found, held: Vec<Curve> },
+    Flattened { polylines: Polylines, held: Held },
+    Whole { reason: String, polylines: Option<Polylines>, held: Held },
+    Cut { dashes: Path, polylines: Polylines, found: Found, held: Held },
     Shape(Convexity),
     Box { rect: Rect, is_finite: bool, is_in_range: bool },
 }
@@ -38,10 +37,7 @@ pub fn order_of(options: &Options) -> Result<Order, Refusal> {
 pub fn answer(command: Command, outline: &Outline, order: &Order, progress: &Progress) -> Result<Answer, Refusal> {
     let path = &outline.path;
     match command {
-        Command::Flatten => {
-            progress.stage("flattening", 0);
-            flatten(path, order.tolerance).map(|polylines| Answer::Flattened { polylines, held: held::find(path, order.tolerance) })
-        }
+        Command::Flatten => flattened(path, order, progress).map(|(polylines, held)| Answer::Flattened { polylines, held }),
         Command::Dash => dashed(path, order, false, progress),
         Command::Preview => dashed(path, order, true, progress),
         Command::Convexity => Ok(Answer::Shape(path.convexity())),
@@ -49,19 +45,32 @@ pub fn answer(command: Command, outline: &Outline, order: &Order, progress: &Pro
     }
 }
 
-/// What is drawn whole is not flattened, so nothing of it is held back; only a picture flattens it too (`is_pictured`), to show its points.
+/// The polylines of a path, and the curves that were held back for them.
+fn flattened(path: &Path, order: &Order, progress: &Progress) -> Result<(Polylines, Held), Refusal> {
+    progress.stage("flattening", 0);
+    let polylines = flatten(path, order.tolerance)?;
+    let held = Held::look_up(polylines.totals().held, path, order.tolerance);
+    Ok((polylines, held))
+}
+
+/// What is drawn whole is not flattened, so the library says that nothing of it is held back; only a picture (`is_pictured`) flattens it too.
 fn dashed(path: &Path, order: &Order, is_pictured: bool, progress: &Progress) -> Result<Answer, Refusal> {
     progress.stage("dashing", 0);
-    match dash_path(path, &order.dash, order.tolerance)? {
+    let dashed = dash_path(path, &order.dash, order.tolerance)?;
+    let number = dashed.held();
+    match dashed {
         Dashed::Whole => {
             let reason = order.reason_for_whole().unwrap_or_else(|| "the library gave no dashes".into());
-            let held = if is_pictured { held::find(path, order.tolerance) } else { Vec::new() };
-            Ok(Answer::Whole { reason, held })
+            if !is_pictured {
+                return Ok(Answer::Whole { reason, polylines: None, held: Held { number, found: Vec::new() } });
+            }
+            let (polylines, held) = flattened(path, order, progress)?;
+            Ok(Answer::Whole { reason, polylines: Some(polylines), held })
         }
         Dashed::Cut { path: dashes, polylines } => {
             progress.stage("looking for dashes that run on", polylines.totals().points);
             let found = walk::find(&polylines, &order.dash, &order.cycle(), order.period(), &dashes, |n| progress.done(n));
-            Ok(Answer::Cut { dashes, polylines, found, held: held::find(path, order.tolerance) })
+            Ok(Answer::Cut { dashes, polylines, found, held: Held::look_up(number, path, order.tolerance) })
         }
     }
 }
@@ -76,11 +85,20 @@ impl Answer {
         }
     }
 
+    /// The path's polylines, if it was flattened.
+    pub fn polylines(&self) -> Option<&Polylines> {
+        match self {
+            Answer::Flattened { polylines, .. } | Answer::Cut { polylines, .. } => Some(polylines),
+            Answer::Whole { polylines, .. } => polylines.as_ref(),
+            Answer::Shape(_) | Answer::Box { .. } => None,
+        }
+    }
+
     /// The curves that were held back.
-    pub fn held(&self) -> &[Curve] {
+    pub fn held(&self) -> &Held {
         match self {
             Answer::Flattened { held, .. } | Answer::Whole { held, .. } | Answer::Cut { held, .. } => held,
-            Answer::Shape(_) | Answer::Box { .. } => &[],
+            Answer::Shape(_) | Answer::Box { .. } => &held::NONE,
         }
     }
 

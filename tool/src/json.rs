@@ -1,6 +1,6 @@
 //! Answers as JSON, one object on one line. `number` says how floats are written.
 use crate::answer::Answer;
-use crate::curve::Curve;
+use crate::held::Held;
 use crate::number::Json;
 use crate::order::{rule_name, Order};
 use crate::text::{letter, runs_of};
@@ -13,7 +13,7 @@ use std::io::{self, Write};
 pub fn write(out: &mut dyn Write, answer: &Answer, path: &Path, order: &Order, progress: impl Fn(usize)) -> io::Result<()> {
     match answer {
         Answer::Flattened { polylines, held } => flattened(out, polylines, held, order, progress)?,
-        Answer::Whole { reason, held } => whole(out, reason, held, path, order)?,
+        Answer::Whole { reason, held, .. } => whole(out, reason, held, path, order)?,
         Answer::Cut { dashes, polylines, found, held } => cut(out, dashes, polylines, found, held, order, progress)?,
         Answer::Shape(convexity) => shape(out, *convexity, path, order)?,
         Answer::Box { rect, is_finite, is_in_range } => bounds(out, rect, *is_finite, *is_in_range, path, order)?,
@@ -73,11 +73,12 @@ fn totals(out: &mut dyn Write, numbers: &[(&str, usize)]) -> io::Result<()> {
 }
 
 /// The curves that were held back, by their verbs' numbers.
-fn held_curves(out: &mut dyn Write, held: &[Curve]) -> io::Result<()> {
-    write!(out, ",\"held_curves\":{}", array(held.iter().map(|curve| curve.index)))
+fn held_curves(out: &mut dyn Write, held: &Held) -> io::Result<()> {
+    let verbs = if held.agrees() { array(held.curves().iter().map(|curve| curve.index)) } else { "null".into() };
+    write!(out, ",\"held_curves\":{verbs}")
 }
 
-fn flattened(out: &mut dyn Write, polylines: &Polylines, held: &[Curve], order: &Order, progress: impl Fn(usize)) -> io::Result<()> {
+fn flattened(out: &mut dyn Write, polylines: &Polylines, held: &Held, order: &Order, progress: impl Fn(usize)) -> io::Result<()> {
     write!(out, "{{\"command\":\"flatten\",\"tolerance\":{},\"rule\":\"{}\"", Json(order.tolerance), rule_name(order.rule))?;
     out.write_all(b",\"polylines\":")?;
     lists(out, polylines.iter(), progress)?;
@@ -89,7 +90,7 @@ fn flattened(out: &mut dyn Write, polylines: &Polylines, held: &[Curve], order: 
         ("lines", t.lines),
         ("counts", t.counts),
         ("closings", t.closings),
-        ("held", held.len()),
+        ("held", held.number),
     ];
     totals(out, &numbers)?;
     held_curves(out, held)
@@ -113,7 +114,7 @@ fn size_of(path: &Path) -> [(&'static str, usize); 2] {
     [("verbs", path.verbs().len()), ("points", path.points().len())]
 }
 
-fn whole(out: &mut dyn Write, reason: &str, held: &[Curve], path: &Path, order: &Order) -> io::Result<()> {
+fn whole(out: &mut dyn Write, reason: &str, held: &Held, path: &Path, order: &Order) -> io::Result<()> {
     ordered(out, order, "whole")?;
     write!(out, ",\"reason\":{},\"outline\":[", string(reason))?;
     for (i, (verb, points)) in path.segments().enumerate() {
@@ -125,7 +126,7 @@ fn whole(out: &mut dyn Write, reason: &str, held: &[Curve], path: &Path, order: 
     }
     out.write_all(b"]")?;
     let [verbs, points] = size_of(path);
-    totals(out, &[verbs, points, ("held", held.len())])?;
+    totals(out, &[verbs, points, ("held", held.number)])?;
     held_curves(out, held)
 }
 
@@ -134,7 +135,7 @@ fn cut(
     dashes: &Path,
     polylines: &Polylines,
     found: &Found,
-    held: &[Curve],
+    held: &Held,
     order: &Order,
     progress: impl Fn(usize),
 ) -> io::Result<()> {
@@ -153,7 +154,7 @@ fn cut(
         ("flattened_points", polylines.totals().points),
         ("dashes_running_on", dashes_on),
         ("gaps_running_on", found.run_ons.len() - dashes_on),
-        ("held", held.len()),
+        ("held", held.number),
     ];
     totals(out, &numbers)?;
     held_curves(out, held)
@@ -199,6 +200,19 @@ fn bounds(out: &mut dyn Write, rect: &Rect, is_finite: bool, is_in_range: bool, 
 #[cfg(test)]
 mod tests {
     use super::*;
+    use hizlaou::{Dash, FillRule};
+
+    #[test]
+    fn the_total_of_held_curves_is_the_librarys_number_and_a_list_that_differs_is_null() {
+        let dash = Dash::new(Vec::new(), 0.0);
+        let order = Order { style: None, dash, tolerance: 0.25, asked_tolerance: 0.25, scale: None, rule: FillRule::NonZero };
+        for (number, found, end) in [(2, 2, "\"held\":2},\"held_curves\":[1,2]}\n"), (3, 2, "\"held\":3},\"held_curves\":null}\n")] {
+            let mut out = Vec::new();
+            let answer = Answer::Flattened { polylines: Polylines::default(), held: Held::made(number, found) };
+            write(&mut out, &answer, &Path::default(), &order, |_| ()).unwrap();
+            assert!(String::from_utf8(out).unwrap().ends_with(end), "{end}");
+        }
+    }
 
     #[test]
     fn texts_are_quoted() {

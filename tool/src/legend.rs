@@ -1,7 +1,6 @@
 //! The legend below a picture: what each mark is and how many there are, and the order in numbers.
 use crate::answer::Answer;
 use crate::canvas::{px, Fit};
-use crate::held;
 use crate::number::{count, Exact};
 use crate::order::rule_name;
 use crate::picture::{xml, Scene, HELD, MARGIN, MOST_MARKS, WIDTH};
@@ -69,7 +68,7 @@ fn marks(scene: &Scene) -> Vec<(String, String)> {
     if gaps > 0 {
         rows.push((ring("#8a5a00"), format!("{} where a gap runs on to the end", count(gaps, "place"))));
     }
-    rows.extend(held::in_words(scene.answer.held()).map(|words| (line(HELD, "20", ""), words)));
+    rows.extend(scene.answer.held().in_words().map(|words| (line(HELD, "20", ""), words)));
     rows
 }
 
@@ -100,7 +99,7 @@ fn notes(scene: &Scene, fit: &Fit) -> Vec<String> {
     if lost > 0 {
         notes.push(format!("Not shown: {} with a coordinate that is not finite.", count(lost, "flattened point")));
     }
-    let unmarked = scene.answer.held().len() - scene.held_bands(fit).len();
+    let unmarked = scene.answer.held().curves().len() - scene.marked_curves().count();
     if unmarked > 0 {
         notes.push(format!("Not marked: {} held back, not finite or after the first {MOST_MARKS}.", count(unmarked, "curve")));
     }

@@ -83,7 +83,7 @@ fn ask(options: &Options, progress: &Progress) -> Result<u8, Failure> {
     warn(&answer);
     if options.command == Command::Preview {
         progress.stage("drawing", 0);
-        let picture = picture::draw(&source.title(), &outline, &order, &answer).map_err(|refusal| Failure::Refused(refusal, None))?;
+        let picture = picture::draw(&source.title(), &outline, &order, &answer);
         put(options.output.as_ref(), |out| out.write_all(picture.as_bytes()))?;
     } else {
         progress.stage("writing", answer.size(&outline.path));

@@ -9,7 +9,7 @@ use crate::order::{rule_name, Order};
 use crate::outline::Outline;
 use crate::walk::RunOn;
 use crate::warnings::{warnings, Warning};
-use hizlaou::{flatten, Polylines, Refusal, Vec2};
+use hizlaou::{Polylines, Vec2};
 use std::fmt::Write;
 
 pub const WIDTH: f64 = 960.0;
@@ -45,24 +45,18 @@ impl Scene<'_> {
         }
     }
 
-    /// The curves held back that the picture can show, each with its path data.
-    pub fn held_bands(&self, fit: &Fit) -> Vec<(&Curve, String)> {
-        self.answer.held().iter().take(MOST_MARKS).filter_map(|curve| Some((curve, fit.curve(curve)?))).collect()
+    /// The curves held back that the picture shows: of the first ones those that are finite.
+    pub fn marked_curves(&self) -> impl Iterator<Item = &Curve> {
+        self.answer.held().curves().iter().take(MOST_MARKS).filter(|curve| curve.is_finite())
     }
 }
 
-/// Draws an answer of `dash`. The points of an outline that is drawn whole are those of flattening it.
-pub fn draw(name: &str, outline: &Outline, order: &Order, answer: &Answer) -> Result<String, Refusal> {
-    let flat;
-    let polylines = match answer {
-        Answer::Cut { polylines, .. } => polylines,
-        _ => {
-            flat = flatten(&outline.path, order.tolerance)?;
-            &flat
-        }
-    };
+/// Draws an answer of `preview`.
+pub fn draw(name: &str, outline: &Outline, order: &Order, answer: &Answer) -> String {
+    let none = Polylines::default();
+    let polylines = answer.polylines().unwrap_or(&none);
     let dot_step = polylines.points().len().div_ceil(MOST_DOTS).max(1);
-    Ok(sheet(&Scene { name, outline, order, answer, polylines, dot_step }))
+    sheet(&Scene { name, outline, order, answer, polylines, dot_step })
 }
 
 /// The parts one below the other, and round them the document.
@@ -166,7 +160,8 @@ fn geometry(body: &mut String, scene: &Scene, fit: &Fit) {
 
 /// A wide band behind each curve that is held back, so that it hides nothing. A browser says which curve it is where the pointer rests on it.
 fn held_back(body: &mut String, scene: &Scene, fit: &Fit) {
-    for (curve, data) in scene.held_bands(fit) {
+    for curve in scene.marked_curves() {
+        let Some(data) = fit.curve(curve) else { continue };
         let _ = write!(body, "<path class=\"held\" d=\"{data}\" fill=\"none\" stroke=\"{HELD}\" stroke-width=\"20\" stroke-linecap=\"round\">");
         let _ = writeln!(body, "<title>{}</title></path>", xml(&which(curve)));
     }

@@ -1,7 +1,6 @@
 //! Answers as text for people.
 use crate::answer::Answer;
-use crate::curve::Curve;
-use crate::held;
+use crate::held::Held;
 use crate::number::{count, Exact};
 use crate::order::{rule_name, Order};
 use crate::walk::Found;
@@ -35,11 +34,11 @@ fn point(out: &mut dyn Write, p: Vec2) -> io::Result<()> {
 }
 
 /// The end of the totals: the curves held back, where there are some.
-fn held_back(held: &[Curve]) -> String {
-    held::in_words(held).map_or(String::new(), |words| format!("; {words}"))
+fn held_back(held: &Held) -> String {
+    held.in_words().map_or(String::new(), |words| format!("; {words}"))
 }
 
-fn flattened(out: &mut dyn Write, polylines: &Polylines, held: &[Curve], progress: impl Fn(usize)) -> io::Result<()> {
+fn flattened(out: &mut dyn Write, polylines: &Polylines, held: &Held, progress: impl Fn(usize)) -> io::Result<()> {
     let mut done = 0;
     for (number, points) in polylines.iter().enumerate() {
         writeln!(out, "polyline {}: {}", number + 1, count(points.len(), "point"))?;
@@ -107,7 +106,7 @@ pub fn runs_of(dashes: &Path) -> usize {
     dashes.verbs().iter().filter(|v| **v == Verb::MoveTo).count()
 }
 
-fn cut(out: &mut dyn Write, dashes: &Path, polylines: &Polylines, found: &Found, held: &[Curve], progress: impl Fn(usize)) -> io::Result<()> {
+fn cut(out: &mut dyn Write, dashes: &Path, polylines: &Polylines, found: &Found, held: &Held, progress: impl Fn(usize)) -> io::Result<()> {
     let mut number = 0;
     for (i, (verb, points)) in dashes.segments().enumerate() {
         if verb == Verb::MoveTo {

@@ -1,7 +1,6 @@
 //! The loud warnings: drawn whole, a dash or a gap that runs on, curves that look faceted.
 use crate::answer::Answer;
-use crate::curve::Curve;
-use crate::held::{in_words, which};
+use crate::held::{which, Held};
 use crate::number::{count, place, Exact};
 use crate::walk::{Place, RunOn};
 
@@ -57,11 +56,16 @@ fn told(headline: &str, run_ons: &[&RunOn], is_barrier: bool) -> Vec<Warning> {
 }
 
 /// The curves held back, in one warning: a conic alone can have 64 of them.
-fn faceted(held: &[Curve]) -> Option<Warning> {
-    let headline = format!("FACETED: {}, too few for the tolerance", in_words(held)?);
-    let mut lines: Vec<String> = held.iter().take(MOST).map(which).collect();
-    if held.len() > MOST {
-        lines.push(format!("and {}", count(held.len() - MOST, "more curve")));
+fn faceted(held: &Held) -> Option<Warning> {
+    if !held.agrees() {
+        let headline = "NOT NAMED: which curves look faceted could not be found out".into();
+        let reason = format!("the library held back {}, the list of them has {}; report it", count(held.number, "curve"), held.found.len());
+        return Some(Warning { headline, reason, is_barrier: false });
+    }
+    let headline = format!("FACETED: {}, too few for the tolerance", held.in_words()?);
+    let mut lines: Vec<String> = held.curves().iter().take(MOST).map(which).collect();
+    if held.number > MOST {
+        lines.push(format!("and {}", count(held.number - MOST, "more curve")));
     }
     Some(Warning { headline, reason: lines.join("\n"), is_barrier: false })
 }
@@ -79,10 +83,10 @@ fn where_and_why(run_on: &RunOn) -> String {
 mod tests {
     use super::*;
     use crate::walk::Found;
-    use hizlaou::{flatten, PathBuilder, Polylines, Vec2, Verb};
+    use hizlaou::{flatten, PathBuilder, Polylines, Vec2};
 
     fn cut(found: Found) -> Answer {
-        Answer::Cut { dashes: PathBuilder::new().build(), polylines: Polylines::default(), found, held: Vec::new() }
+        Answer::Cut { dashes: PathBuilder::new().build(), polylines: Polylines::default(), found, held: Held::made(0, 0) }
     }
 
     #[test]
@@ -95,16 +99,28 @@ mod tests {
         assert!(list[11].headline.starts_with("A GAP RUNS ON"));
     }
 
+    fn flattened(held: Held) -> Answer {
+        Answer::Flattened { polylines: Polylines::default(), held }
+    }
+
     #[test]
     fn curves_held_back_are_one_warning_and_many_are_counted() {
-        let curve = |index| Curve { index, verb: Verb::QuadTo, points: vec![Vec2::ZERO, Vec2::new(8.0, 8.0), Vec2::new(16.0, index as f32)] };
-        let flattened = |number| Answer::Flattened { polylines: Polylines::default(), held: (1..=number).map(curve).collect() };
-        assert_eq!(warnings(&flattened(0)), []);
-        let [ten, twelve] = [10, 12].map(|number| warnings(&flattened(number)));
+        assert_eq!(warnings(&flattened(Held::made(0, 0))), []);
+        let [ten, twelve] = [10, 12].map(|number| warnings(&flattened(Held::made(number, number))));
         assert_eq!((ten.len(), ten[0].reason.lines().count(), ten[0].reason.lines().last()), (1, 10, Some("verb 10, the quad to (16 10)")));
         assert_eq!((twelve.len(), twelve[0].reason.lines().count(), twelve[0].reason.lines().last()), (1, 11, Some("and 2 more curves")));
         assert_eq!(twelve[0].headline, "FACETED: 12 curves held back at 1000 pieces, too few for the tolerance");
         assert!(!twelve[0].is_barrier);
+    }
+
+    #[test]
+    fn a_list_that_is_not_as_long_as_the_librarys_number_is_loud() {
+        for (number, found, reason) in [(3, 2, "3 curves, the list of them has 2"), (0, 1, "0 curves, the list of them has 1")] {
+            let list = warnings(&flattened(Held::made(number, found)));
+            assert_eq!((list.len(), list[0].is_barrier), (1, false));
+            assert_eq!(list[0].headline, "NOT NAMED: which curves look faceted could not be found out");
+            assert_eq!(list[0].reason, format!("the library held back {reason}; report it"));
+        }
     }
 
     #[test]
