@@ -5,10 +5,11 @@ use crate::curve::Curve;
 use crate::held::which;
 use crate::json::runs;
 use crate::legend;
+use crate::number::count;
 use crate::order::{rule_name, Order};
 use crate::outline::Outline;
 use crate::walk::RunOn;
-use crate::warnings::{warnings, Warning};
+use crate::warnings::{faceted, unbroken, Warning};
 use hizlaou::{Polylines, Vec2};
 use std::fmt::Write;
 
@@ -63,7 +64,7 @@ pub fn draw(name: &str, outline: &Outline, order: &Order, answer: &Answer) -> St
 fn sheet(scene: &Scene) -> String {
     let mut body = title(scene.name);
     let mut y = 56.0;
-    y += banners(&mut body, &warnings(scene.answer), y);
+    y += banners(&mut body, &unbroken(scene.answer), faceted(scene.answer.held()).as_ref(), y);
     let extent = Extent::of(&scene.outline.path, scene.polylines);
     let inside = (MARGIN + PADDING, y + PADDING);
     let (fit, height) = Fit::new(extent, inside, WIDTH - 2.0 * (MARGIN + PADDING), 120.0, 600.0);
@@ -89,15 +90,17 @@ fn title(name: &str) -> String {
     )
 }
 
-/// One bar for each warning, red where nothing breaks the line. Answers the height.
-fn banners(body: &mut String, list: &[Warning], top: f64) -> f64 {
+/// One bar for each of the first warnings, red where nothing breaks the line. The last bar is kept for the curves, since no other tells of them.
+/// Answers the height.
+fn banners(body: &mut String, unbroken: &[Warning], faceted: Option<&Warning>, top: f64) -> f64 {
+    let most = MOST_BANNERS - usize::from(faceted.is_some());
     let mut height = 0.0;
-    for warning in list.iter().take(MOST_BANNERS) {
+    for warning in unbroken.iter().take(most).chain(faceted) {
         banner(body, warning, top + height);
         height += 70.0;
     }
-    if list.len() > MOST_BANNERS {
-        let more = format!("and {} more warnings, on standard error", list.len() - MOST_BANNERS);
+    if unbroken.len() > most {
+        let more = format!("and {}, on standard error", count(unbroken.len() - most, "more warning"));
         let _ = writeln!(body, "<text x=\"{MARGIN}\" y=\"{}\" font-weight=\"bold\" fill=\"#c8102e\">{more}</text>", top + height + 12.0);
         height += 28.0;
     }
@@ -224,6 +227,23 @@ pub fn xml(text: &str) -> String {
 #[cfg(test)]
 mod tests {
     use super::*;
+
+    #[test]
+    fn a_bar_is_kept_for_faceted_curves() {
+        let warning = |headline: &str| Warning { headline: headline.into(), reason: String::new(), is_barrier: true };
+        let faceted = warning("FACETED");
+        let drawn = |places: usize, faceted: Option<&Warning>| {
+            let mut body = String::new();
+            banners(&mut body, &vec![warning("A DASH RUNS ON"); places], faceted, 0.0);
+            let more = body.split_once(">and ").and_then(|(_, rest)| rest.split_once(',')).map(|(more, _)| more.to_string());
+            (body.matches("A DASH").count(), body.matches("FACETED").count(), more)
+        };
+        assert_eq!(drawn(2, Some(&faceted)), (2, 1, None));
+        assert_eq!(drawn(3, Some(&faceted)), (2, 1, Some("1 more warning".into())));
+        assert_eq!(drawn(7, Some(&faceted)), (2, 1, Some("5 more warnings".into())));
+        assert_eq!(drawn(3, None), (3, 0, None));
+        assert_eq!(drawn(7, None), (3, 0, Some("4 more warnings".into())));
+    }
 
     #[test]
     fn any_name_can_stand_in_xml() {

@@ -25,7 +25,7 @@ pub fn warnings(answer: &Answer) -> Vec<Warning> {
 }
 
 /// What goes to air without gaps, or not at all.
-fn unbroken(answer: &Answer) -> Vec<Warning> {
+pub fn unbroken(answer: &Answer) -> Vec<Warning> {
     match answer {
         Answer::Whole { reason, .. } => {
             let headline = "DRAWN WHOLE: the lane goes to air as one unbroken line".into();
@@ -56,7 +56,7 @@ fn told(headline: &str, run_ons: &[&RunOn], is_barrier: bool) -> Vec<Warning> {
 }
 
 /// The curves held back, in one warning: a conic alone can have 64 of them.
-fn faceted(held: &Held) -> Option<Warning> {
+pub fn faceted(held: &Held) -> Option<Warning> {
     if !held.agrees() {
         let headline = "NOT NAMED: which curves look faceted could not be found out".into();
         let reason = format!("the library held back {}, the list of them has {}; report it", count(held.number, "curve"), held.found.len());

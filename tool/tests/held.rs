@@ -116,6 +116,14 @@ fn more_bands_than_are_drawn_are_counted() {
 }
 
 #[test]
+fn among_many_warnings_the_picture_still_has_its_bar() {
+    let data = "M0 0H2V4".repeat(4) + "M0 0Q8 8 16 0";
+    let ran = ran(&["preview", "--pattern", "2 1"], "1e-6", &data);
+    assert_eq!((ran.err.matches("A DASH RUNS ON").count(), ran.out.matches("class=\"warning\"").count()), (4, 3));
+    assert!(ran.out.contains(">FACETED: 1 curve ") && ran.out.contains(">and 2 more warnings, on standard error</text>"));
+}
+
+#[test]
 fn what_is_drawn_whole_is_flattened_for_the_picture_only() {
     let whole = "hizlaou: WARNING: DRAWN WHOLE: the lane goes to air as one unbroken line\nhizlaou:          style 0 has no intervals\n";
     let dash = ran(&["dash", "--style", "0"], "6e-6", COURSE);
