@@ -56,8 +56,8 @@ fn keep_telling(work: &Work) {
     let begun = Instant::now();
     let mut is_over = work.is_over.lock().unwrap_or_else(PoisonError::into_inner);
     while !*is_over {
-        let (held, wait) = work.over.wait_timeout(is_over, Duration::from_secs(1)).unwrap_or_else(PoisonError::into_inner);
-        is_over = held;
+        let (guard, wait) = work.over.wait_timeout(is_over, Duration::from_secs(1)).unwrap_or_else(PoisonError::into_inner);
+        is_over = guard;
         if !*is_over && wait.timed_out() {
             tell(words(work, begun.elapsed().as_secs()));
         }
