@@ -74,8 +74,9 @@ LOUD WARNINGS, on standard error and on the picture
   A GAP RUNS ON   the same in a gap: nothing more of that polyline is drawn
                   (--refuse-whole lets it pass)
   FACETED         curves that want more than 1000 pieces are held back there, and look
-                  faceted; each is named by its verb, the first being 0, and its end
-                  (--refuse-whole lets it pass; JSON: held in totals, held_curves)
+                  faceted; the first ten are named by verb, from 0 on, and end, the rest
+                  counted (--refuse-whole lets it pass; JSON has their number, held in
+                  totals, and lists all, held_curves)
 
 NUMBERS IN ANSWERS
   The fewest digits that read back, as f32, to the very same float. Minus zero is -0.0.

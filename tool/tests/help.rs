@@ -17,7 +17,7 @@ fn each_example_of_the_help_runs() {
         let output = Command::new("sh").args(["-c", line]).current_dir(&folder).env("PATH", &path).output().unwrap();
         assert!(output.status.success(), "{line}: {}", String::from_utf8_lossy(&output.stderr));
     }
-    let last = std::fs::read_to_string(folder.join("lane.svg")).unwrap();
-    assert!(lines.len() > 6 && last.contains("DRAWN WHOLE"));
+    let picture = |name| std::fs::read_to_string(folder.join(name)).unwrap();
+    assert!(lines.len() > 6 && picture("lane.svg").contains("DRAWN WHOLE") && picture("large.svg").contains("FACETED"));
     std::fs::remove_dir_all(&folder).unwrap();
 }
