@@ -92,28 +92,14 @@ pub(crate) struct Size {
     closes: usize,
 }
 
-/// The verbs of a path, each with the pen before it and its points.
-fn with_pen(path: &Path) -> impl Iterator<Item = (Verb, Vec2, &[Vec2])> + '_ {
-    let (mut start, mut pen) = (Vec2::ZERO, Vec2::ZERO);
-    path.segments().map(move |(verb, p)| {
-        let from = pen;
-        if verb == Verb::MoveTo {
-            start = p[0];
-        }
-        pen = *p.last().unwrap_or(&start);
-        (verb, from, p)
-    })
-}
-
 impl Size {
     pub(crate) fn of(path: &Path, tolerance: f32) -> Size {
         let mut size = Size { lines: 0, counts: 0, moves: 0, closes: 0 };
-        for (verb, pen, p) in with_pen(path) {
+        for (verb, count) in counted(path, tolerance) {
             match verb {
                 Verb::MoveTo => size.moves += 1,
                 Verb::LineTo => size.lines += 1,
-                Verb::QuadTo => size.counts += quad_segment_count(pen, p[0], p[1], tolerance).count as usize,
-                Verb::CubicTo => size.counts += cubic_segment_count(pen, p[0], p[1], p[2], tolerance).count as usize,
+                Verb::QuadTo | Verb::CubicTo => size.counts += count.count as usize,
                 Verb::Close => size.closes += 1,
             }
         }
@@ -142,6 +128,24 @@ impl Size {
     }
 }
 
+/// The verbs of a path, first to last, each with its count at a tolerance: 0 and false for a verb that is no curve.
+fn counted(path: &Path, tolerance: f32) -> impl Iterator<Item = (Verb, SegmentCount)> + '_ {
+    let (mut start, mut pen) = (Vec2::ZERO, Vec2::ZERO);
+    path.segments().map(move |(verb, p)| {
+        let from = pen;
+        if verb == Verb::MoveTo {
+            start = p[0];
+        }
+        pen = *p.last().unwrap_or(&start);
+        let count = match verb {
+            Verb::QuadTo => quad_segment_count(from, p[0], p[1], tolerance),
+            Verb::CubicTo => cubic_segment_count(from, p[0], p[1], p[2], tolerance),
+            Verb::MoveTo | Verb::LineTo | Verb::Close => SegmentCount::default(),
+        };
+        (verb, count)
+    })
+}
+
 /// Flattens a path into polylines, one for each subpath with a drawn verb.
 ///
 /// ```
@@ -168,8 +172,8 @@ pub fn flatten(path: &Path, tolerance: f32) -> Result<Polylines, Refusal> {
     Ok(Polylines { points, ends, totals })
 }
 
-/// The N that the curve at a verb's index is flattened with, and whether it was held back: 0 for a verb that is no curve, and past the end. For all
-/// curves of a path ask [`held_curves`], which reads the path once.
+/// The N that the curve at a verb's index is flattened with, and whether it was held back: 0 and false for a verb that is no curve, and past the end. To
+/// find all that are held back, ask [`held_curves`], which reads the path once.
 ///
 /// ```
 /// # fn main() -> Result<(), hizlaou::Refusal> {
@@ -203,15 +207,7 @@ pub fn carried_count(path: &Path, tolerance: f32, index: usize) -> Result<Segmen
 /// # Ok(()) }
 /// ```
 pub fn held_curves(path: &Path, tolerance: f32) -> Vec<usize> {
-    let held = |(index, (verb, pen, p)): (usize, (Verb, Vec2, &[Vec2]))| {
-        let count = match verb {
-            Verb::QuadTo => quad_segment_count(pen, p[0], p[1], tolerance),
-            Verb::CubicTo => cubic_segment_count(pen, p[0], p[1], p[2], tolerance),
-            Verb::MoveTo | Verb::LineTo | Verb::Close => return None,
-        };
-        count.held.then_some(index)
-    };
-    with_pen(path).enumerate().filter_map(held).collect()
+    counted(path, tolerance).enumerate().filter(|(_, (_, count))| count.held).map(|(index, _)| index).collect()
 }
 
 /// Segment count for a quadratic curve at a tolerance: 1 to 1,000, and whether it was held back.
