@@ -57,7 +57,7 @@ impl Refusal {
         match self.0 {
             1 => "lend two floats for each point",
             2 => "keep a path to 65,536 verbs and 131,072 points: start another path",
-            3 => "use a coarser pattern, a larger tolerance or a shorter path: dashes are held to 65,536 verbs",
+            3 => "use a coarser pattern, a larger tolerance or a shorter path: dashes are limited to 65,536 verbs",
             4 => "split the path",
             5 => "use 0 move, 1 line, 2 quad, 3 cubic, 4 close",
             6 => "begin with a move, and give 1, 1, 2, 3, 0 points for move, line, quad, cubic, close",
