@@ -25,24 +25,51 @@ fn runs(points: &[(f32, f32)], intervals: &[f32]) -> Result<Vec<(Verb, Vec2)>, R
 
 const M: Verb = Verb::MoveTo;
 const L: Verb = Verb::LineTo;
+const ONE: SegmentCount = SegmentCount { count: 1, held: false };
+const HELD: SegmentCount = SegmentCount { count: 1000, held: true };
 
 #[test]
 fn counts() {
     for (s, n) in [(1.0, 1), (1.000_000_1, 1), (1.000_000_24, 2), (998_001.0, 999), (1e6, 1000), (f32::NAN, 1), (f32::NEG_INFINITY, 1), (-1e38, 1)] {
         assert_eq!(segment_count(s), SegmentCount { count: n, held: false }, "{s}");
     }
-    assert_eq!(quad_segment_count(p(0., 0.), p(8., 0.), p(16., 0.), 0.25), SegmentCount { count: 1, held: false });
+    assert_eq!(quad_segment_count(p(0., 0.), p(8., 0.), p(16., 0.), 0.25), ONE);
     assert_eq!(eval_cubic(p(0., 0.), p(0., 8.), p(16., 8.), p(16., 0.), 0.5), p(8., 6.));
 }
 
 #[test]
 fn counts_that_were_held_back() {
     for s in [f32::from_bits(1e6f32.to_bits() + 1), f32::MAX, f32::INFINITY] {
-        assert_eq!(segment_count(s), SegmentCount { count: 1000, held: true }, "{s}");
+        assert_eq!(segment_count(s), HELD, "{s}");
     }
-    // its second difference alone asks for more than 1,000 lines; the first is 0
-    let cubic = |x| cubic_segment_count(p(0., 0.), p(1., 0.), p(2., 0.), p(x, 0.), 0.25);
-    assert_eq!((cubic(3.), cubic(1e6)), (SegmentCount { count: 1, held: false }, SegmentCount { count: 1000, held: true }));
+    let cubic = |from, to| cubic_segment_count(from, p(1., 0.), p(2., 0.), to, 0.25);
+    let (from, to, far, nan) = (p(0., 0.), p(3., 0.), p(1e6, 0.), p(f32::NAN, 0.));
+    // each of the two differences alone asks for more than 1,000 lines; of the straight one both are 0
+    assert_eq!([cubic(from, to), cubic(far, to), cubic(from, far)], [ONE, HELD, HELD]);
+    // a difference that has a NaN is passed over, and the other decides
+    assert_eq!([cubic(nan, far), cubic(far, nan)], [HELD, HELD]);
+    assert_eq!([cubic(nan, to), cubic(p(1e6, f32::NAN), to), cubic(nan, nan)], [ONE, ONE, ONE]);
+}
+
+#[test]
+fn a_tolerance_that_is_a_nan_counts_as_the_smallest_normal_float() -> Checked {
+    let quad = |y| quad_segment_count(p(0., 0.), p(8., y), p(16., 0.), f32::NAN);
+    let little = 32. * f32::MIN_POSITIVE;
+    assert_eq!([quad(8.), quad(little), quad(0.)], [HELD, SegmentCount { count: 5, held: false }, ONE]);
+    let mut b = PathBuilder::new();
+    b.move_to(p(0., 0.))?.quad_to(p(8., 8.), p(16., 0.))?.quad_to(p(24., 0.), p(32., 0.))?;
+    assert_eq!(held_by_all_calls(&b.build(), f32::NAN)?, [1]);
+    Ok(())
+}
+
+/// The curves that are held back, on which all calls that tell of them agree.
+fn held_by_all_calls(path: &Path, tolerance: f32) -> Result<Vec<usize>, Refusal> {
+    let found = held_curves(path, tolerance);
+    assert_eq!(flatten(path, tolerance)?.totals().held, found.len());
+    let carried: Vec<SegmentCount> = (0..=path.verbs().len()).map(|i| carried_count(path, tolerance, i)).collect::<Result<_, _>>()?;
+    assert_eq!((0..carried.len()).filter(|&i| carried[i].held).collect::<Vec<_>>(), found);
+    assert!(found.iter().all(|&i| carried[i].count == MAX_SEGMENTS));
+    Ok(found)
 }
 
 #[test]
@@ -51,14 +78,25 @@ fn held_curves_are_counted_and_found() -> Checked {
     b.move_to(p(0., 0.))?.quad_to(p(8., 8.), p(16., 0.))?.quad_to(p(2e6, 0.), p(0., 0.))?.line_to(p(1., 1.))?;
     b.cubic_to(p(2., 1.), p(3., 1.), p(1e6, 1.))?.close()?.quad_to(p(f32::INFINITY, 0.), p(1., 0.))?;
     let path = b.build();
-    assert_eq!(held_curves(&path, 0.25), [2, 4, 6]);
-    assert_eq!(flatten(&path, 0.25)?.totals().held, 3);
-    let held = (0..8).filter_map(|i| carried_count(&path, 0.25, i).ok()?.held.then_some(i));
-    assert_eq!(held.collect::<Vec<_>>(), [2, 4, 6]);
+    assert_eq!(held_by_all_calls(&path, 0.25)?, [2, 4, 6]);
     // at a wide tolerance only the infinite one
-    assert_eq!((held_curves(&path, 1e6), flatten(&path, 1e6)?.totals().held), (vec![6], 1));
+    assert_eq!(held_by_all_calls(&path, 1e6)?, [6]);
     assert_eq!(dash_path(&path, &Dash::new(vec![1e6, 1e5], 0.), 0.25)?.held(), 3);
     assert_eq!(dash_path(&path, &Dash::new(vec![], 0.), 0.25)?.held(), 0);
+    assert_eq!(dash_path(&path, &Dash::new(vec![1e6; 65], 0.), 0.25), Err(Refusal::LONG_PATTERN));
+    Ok(())
+}
+
+/// From the move's point the first two curves are straight and the last bends; from the line's end it is the other way round.
+#[test]
+fn a_curve_after_a_close_starts_at_the_moves_point() -> Checked {
+    let mut b = PathBuilder::new();
+    b.move_to(p(0., 0.))?.line_to(p(1e6, 0.))?.close()?.quad_to(p(1., 0.), p(2., 0.))?;
+    b.move_to(p(1e6, 0.))?.line_to(p(0., 0.))?.close()?.cubic_to(p(1e6 + 1., 0.), p(1e6 + 2., 0.), p(1e6 + 3., 0.))?;
+    b.move_to(p(0., 0.))?.line_to(p(1e6, 0.))?.close()?.quad_to(p(1e6, 0.), p(1e6, 0.))?;
+    let path = b.build();
+    assert_eq!(held_by_all_calls(&path, 0.25)?, [11]);
+    assert_eq!([carried_count(&path, 0.25, 3)?, carried_count(&path, 0.25, 7)?], [ONE, ONE]);
     Ok(())
 }
 
