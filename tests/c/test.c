@@ -175,6 +175,7 @@ static void flattening(void) {
     for (int i = 0; i < 16; i++) out[i] = 7;
     HzFlattened f = hz_flatten(verbs, 4, points, 8, 0.25f, out, 16, ends, 2);
     CHECK(f.refused == HZ_OK && f.points == 8 && f.polylines == 1 && f.starts == 1 && f.lines == 1 && f.counts == 5 && f.closings == 1);
+    CHECK(f.held == 0);
     CHECK(ends[0] == 8 && out[10] == 16 && out[12] == 16 && out[13] == 4 && out[14] == 0 && out[15] == 0);
 
     float kept[16];
@@ -190,7 +191,6 @@ static void flattening(void) {
     f = hz_flatten(NULL, 0, NULL, 0, 0.25f, NULL, 0, NULL, 0);
     CHECK(f.refused == HZ_OK && f.points == 0);
 
-    CHECK(f.held == 0);
     CHECK(hz_carried_count(verbs, 4, points, 8, 0.25f, 1).count == 5);
     CHECK(hz_carried_count(verbs, 4, points, 8, 0.25f, 2).count == 0);
     CHECK(hz_carried_count(verbs, 4, points, 8, 0.25f, 99).count == 0);
@@ -206,37 +206,72 @@ static void flattening(void) {
     CHECK(hz_check(many, HZ_MAX_VERBS, NULL, 0) == HZ_BAD_PATH);
 }
 
+/* What is lent and ordered for a dashing of two curves that are both held back. */
+typedef struct {
+    uint8_t last_verb;
+    size_t floats, intervals, scratch, dashes;
+} Lent;
+
+enum { DASH_ROOM = 2001 };
+
+static HzDashed dash_held(Lent lent, size_t *end) {
+    uint8_t verbs[] = {HZ_MOVE, HZ_QUAD, lent.last_verb};
+    float points[] = {0, 0, 8, 8, 16, 0, 2e6f, 0, 16, 16};
+    float pattern[HZ_MAX_INTERVALS + 1] = {1e7f, 1};
+    static float scratch[2 * DASH_ROOM], drawn[2 * DASH_ROOM];
+    static uint8_t laid[DASH_ROOM];
+    *end = 0;
+    return hz_dash_path(verbs, 3, points, lent.floats, 0, pattern, lent.intervals, 0, 1e-7f, scratch, 2 * lent.scratch, end, 1, laid, lent.dashes,
+                        drawn, 2 * lent.dashes);
+}
+
+/* Nothing is counted, held curves included. */
+static int uncut(HzDashed d, uint8_t kind, uint8_t refused) {
+    return d.kind == kind && d.refused == refused && d.verbs == 0 && d.points == 0 && d.scratch == 0 && d.polylines == 0 && d.held == 0;
+}
+
+/* A cut says how many curves were held back, all else 0, whatever the path has. */
+static void held_back_in_dashes(void) {
+    enum { ROOM = DASH_ROOM };
+    size_t end;
+    HzDashed d = dash_held((Lent){HZ_QUAD, 10, 2, ROOM, ROOM}, &end);
+    CHECK(d.refused == HZ_OK && d.kind == HZ_CUT && d.held == 2 && d.scratch == ROOM && end == ROOM);
+    CHECK(uncut(dash_held((Lent){HZ_QUAD, 10, 0, ROOM, ROOM}, &end), HZ_WHOLE, HZ_OK));
+    CHECK(uncut(dash_held((Lent){HZ_QUAD, 9, 2, ROOM, ROOM}, &end), HZ_REFUSED, HZ_ODD_FLOATS));
+    CHECK(uncut(dash_held((Lent){5, 10, 2, ROOM, ROOM}, &end), HZ_REFUSED, HZ_NO_VERB));
+    CHECK(uncut(dash_held((Lent){HZ_QUAD, 8, 2, ROOM, ROOM}, &end), HZ_REFUSED, HZ_BAD_PATH));
+    CHECK(uncut(dash_held((Lent){HZ_QUAD, 10, HZ_MAX_INTERVALS + 1, ROOM, ROOM}, &end), HZ_REFUSED, HZ_LONG_PATTERN));
+    /* the scratch is one point short; then the dash buffers are, and the scratch was written */
+    CHECK(uncut(dash_held((Lent){HZ_QUAD, 10, 2, ROOM - 1, ROOM}, &end), HZ_REFUSED, HZ_OUTPUT_FULL) && end == 0);
+    CHECK(uncut(dash_held((Lent){HZ_QUAD, 10, 2, ROOM, d.verbs - 1}, &end), HZ_REFUSED, HZ_OUTPUT_FULL) && end == ROOM);
+}
+
 /* Two curves that ask for more than they may have, the second an infinite one, and one that does not. */
 static void held_back(void) {
     enum { POINTS = 2006 };
     uint8_t verbs[] = {HZ_MOVE, HZ_QUAD, HZ_QUAD, HZ_CUBIC};
     float points[] = {0, 0, 8, 8, 16, 0, 2e6f, 0, 16, 16, INFINITY, 0, 0, 0, 0, 16};
-    static float out[2 * POINTS], drawn[64];
+    static float out[2 * POINTS];
     size_t ends[1];
-    uint8_t laid[32];
     HzFlattened f = hz_flatten(verbs, 4, points, 16, 0.25f, out, 2 * POINTS, ends, 1);
     CHECK(f.refused == HZ_OK && f.points == POINTS && f.counts == 2005 && f.held == 2);
     f = hz_flatten(verbs, 4, points, 16, 0.25f, out, 2 * POINTS - 2, ends, 1);
     CHECK(f.refused == HZ_OUTPUT_FULL && f.held == 0);
     f = hz_flatten(verbs, 4, points, 15, 0.25f, out, 2 * POINTS, ends, 1);
     CHECK(f.refused == HZ_ODD_FLOATS && f.held == 0);
+    /* a NaN counts as the smallest tolerance, at which the first curve is held back too */
+    f = hz_flatten(verbs, 2, points, 6, NAN, out, 2 * POINTS, ends, 1);
+    CHECK(f.refused == HZ_OK && f.counts == HZ_MAX_SEGMENTS && f.held == 1);
 
+    size_t counts[] = {0, 5, HZ_MAX_SEGMENTS, HZ_MAX_SEGMENTS, 0};
     bool held[] = {false, false, true, true, false};
-    for (size_t i = 0; i < 5; i++) CHECK(hz_carried_count(verbs, 4, points, 16, 0.25f, i).held == held[i]);
+    for (size_t i = 0; i < 5; i++) {
+        HzCarried c = hz_carried_count(verbs, 4, points, 16, 0.25f, i);
+        CHECK(c.refused == HZ_OK && c.count == counts[i] && c.held == held[i]);
+    }
     HzCarried c = hz_carried_count(verbs, 4, points, 14, 0.25f, 2);
-    CHECK(c.refused == HZ_BAD_PATH && !c.held);
-
-    float pattern[] = {1e7f, 1};
-    HzDashed d = hz_dash_path(verbs, 3, points, 10, 0, pattern, 2, 0, 1e-7f, out, 2 * POINTS, ends, 1, laid, 32, drawn, 64);
-    CHECK(d.refused == HZ_OUTPUT_FULL && d.held == 0 && ends[0] == 2001);
-    static uint8_t many[POINTS];
-    static float far[2 * POINTS];
-    d = hz_dash_path(verbs, 3, points, 10, 0, pattern, 2, 0, 1e-7f, out, 2 * POINTS, ends, 1, many, POINTS, far, 2 * POINTS);
-    CHECK(d.kind == HZ_CUT && d.held == 2 && d.scratch == 2001);
-    d = hz_dash_path(verbs, 3, points, 10, 0, pattern, 0, 0, 1e-7f, out, 2 * POINTS, ends, 1, many, POINTS, far, 2 * POINTS);
-    CHECK(d.kind == HZ_WHOLE && d.held == 0);
-    d = hz_dash_path(verbs, 3, points, 10, 0, pattern, 2, 0, 1e-7f, out, 100, ends, 1, many, POINTS, far, 2 * POINTS);
-    CHECK(d.refused == HZ_OUTPUT_FULL && d.held == 0);
+    CHECK(c.refused == HZ_BAD_PATH && c.count == 0 && !c.held);
+    held_back_in_dashes();
 }
 
 static void questions(void) {
@@ -274,6 +309,11 @@ static void questions(void) {
     CHECK(hz_polygon_convexity(NULL, 0).convexity == HZ_CONVEX);
 }
 
+/* A cubic with the second differences `from` and `to` - (3, 0). */
+static HzSegmentCount cubic(HzVec2 from, HzVec2 to) {
+    return hz_cubic_segment_count(from, at(1, 0), at(2, 0), to, HZ_DEFAULT_TOLERANCE);
+}
+
 static void values(void) {
     HzVec2 a = at(0, 0), b = at(8, 8), c = at(16, 0);
     CHECK(hz_sqrt(2.0f) == sqrtf(2.0f) && isnan(hz_sqrt(-1.0f)));
@@ -284,8 +324,17 @@ static void values(void) {
     CHECK(counted(hz_quad_segment_count(a, b, c, HZ_DEFAULT_TOLERANCE), 5, false));
     CHECK(counted(hz_quad_segment_count(a, b, c, 0), HZ_MAX_SEGMENTS, true));
     CHECK(counted(hz_cubic_segment_count(a, at(0, 8), at(16, 8), c, HZ_DEFAULT_TOLERANCE), 9, false));
-    /* the second difference alone asks for more than it may have */
-    CHECK(counted(hz_cubic_segment_count(a, at(1, 0), at(2, 0), at(1e6f, 0), HZ_DEFAULT_TOLERANCE), HZ_MAX_SEGMENTS, true));
+    /* a NaN counts as a tolerance of 2^-126 */
+    CHECK(counted(hz_quad_segment_count(a, b, c, NAN), HZ_MAX_SEGMENTS, true));
+    CHECK(counted(hz_quad_segment_count(a, at(8, 0x1p-121f), c, NAN), 5, false));
+    CHECK(counted(hz_quad_segment_count(a, at(8, 0), c, NAN), 1, false));
+    /* either of a cubic's differences alone asks for more than it may have */
+    HzVec2 to = at(3, 0), far = at(1e6f, 0), nan = at(NAN, 0);
+    CHECK(counted(cubic(a, to), 1, false));
+    CHECK(counted(cubic(far, to), HZ_MAX_SEGMENTS, true) && counted(cubic(a, far), HZ_MAX_SEGMENTS, true));
+    /* one that has a NaN is passed over, and the other decides */
+    CHECK(counted(cubic(nan, far), HZ_MAX_SEGMENTS, true) && counted(cubic(far, nan), HZ_MAX_SEGMENTS, true));
+    CHECK(counted(cubic(nan, to), 1, false) && counted(cubic(at(1e6f, NAN), to), 1, false) && counted(cubic(nan, nan), 1, false));
     CHECK(same(hz_eval_quad(a, b, c, 0.5f), at(8, 4)));
     CHECK(same(hz_eval_cubic(a, at(0, 8), at(16, 8), c, 0.5f), at(8, 6)));
     CHECK(hz_tolerance_for_scale(0.25f, 2.0f) == 0.125f && hz_tolerance_for_scale(0.25f, 0.0f) == 0.25f);
