@@ -113,12 +113,13 @@ typedef struct {
     uint8_t known;
 } HzNote;
 
-/* How many segments a curve takes, and whether it was held back there: Wang's bound, or an overflow on the way to it, asks for more than
- * HZ_MAX_SEGMENTS. Such a curve may look faceted. A count of HZ_MAX_SEGMENTS alone does not say so: it is also the right one for a curve that asks
- * for just so many. */
+/* N, the number of straight segments that a curve is cut into, and whether it was held back at HZ_MAX_SEGMENTS. Wang's formula says how many
+ * segments a curve needs so that none lies further off it than the tolerance; s is the square of that number, as a float. An infinite coordinate, or an
+ * overflow on the way, can make s +inf. A curve that needs more than HZ_MAX_SEGMENTS gets just so many: it is held back, and may look faceted. A count
+ * of HZ_MAX_SEGMENTS alone does not say so: it is also the right one for a curve that needs just so many. */
 typedef struct {
-    uint32_t count;           /* 1 to HZ_MAX_SEGMENTS */
-    bool held;                /* held back: s is +inf, or above 0 with its rounded root over HZ_MAX_SEGMENTS; so it is exactly where s > 1,000,000 */
+    uint32_t count;           /* N, 1 to HZ_MAX_SEGMENTS */
+    bool held;                /* held back: s is +inf or its rounded root is over HZ_MAX_SEGMENTS, which is so exactly where s > 1,000,000 */
 } HzSegmentCount;
 
 /* A flattening's totals: points is starts + lines + counts + closings, and polylines equals starts. All 0 in a refusal. */
@@ -135,7 +136,7 @@ typedef struct {
 } HzFlattened;
 
 typedef struct {
-    size_t count;             /* 0 for a verb that is no curve, past the end, and in a refusal */
+    size_t count;             /* the curve's N; 0 for a verb that is no curve, past the end, and in a refusal */
     bool held;                /* whether the curve was held back; false where count is 0 */
     uint8_t refused;          /* 1, 4, 5 or 6 */
 } HzCarried;
@@ -190,7 +191,7 @@ typedef struct {
 /* IEEE 754 squareRoot, nearest, ties to even. */
 float hz_sqrt(float x);
 
-/* The segment count of s, Wang's squared count: 1 for NaN or s <= 0, HZ_MAX_SEGMENTS for +inf, else the rounded root rounded up, at most
+/* The segment count of s (see HzSegmentCount): 1 for NaN or s <= 0, HZ_MAX_SEGMENTS for +inf, else the rounded root rounded up, at most
  * HZ_MAX_SEGMENTS; and whether it was held back. */
 HzSegmentCount hz_segment_count(float squared);
 

@@ -5,15 +5,20 @@ use crate::refusal::Refusal;
 
 /// Default flattening tolerance in device pixels.
 pub const DEFAULT_TOLERANCE: f32 = 0.25;
-/// The most lines of a single curve.
+/// The most segments of a single curve.
 pub const MAX_SEGMENTS: u32 = 1000;
 
-/// How many lines a curve becomes, and whether it was held back at [`MAX_SEGMENTS`]: Wang's bound, or an overflow on the way to it, asks for more, and
-/// the curve may look faceted. A count of 1,000 alone does not say so, since it is also the right one for a curve that asks for just so many.
+/// N, the number of straight segments that a curve is cut into, and whether it was held back at [`MAX_SEGMENTS`].
+///
+/// Wang's formula says how many segments a curve needs so that none lies further off it than the tolerance; s is the square of that number, as a
+/// float. An infinite coordinate, or an overflow on the way, can make s +∞. A curve that needs more than 1,000 segments gets just so many: it is held
+/// back, and may look faceted. A count of 1,000 alone does not say so, since it is also the right one for a curve that needs just so many.
 #[repr(C)]
 #[derive(Debug, Clone, Copy, PartialEq, Eq, Hash, Default)]
 pub struct SegmentCount {
+    /// N, 1 to 1,000; 0 where [`carried_count`] is asked for what is no curve.
     pub count: u32,
+    /// Held back: s is +∞ or its rounded root is over 1,000, which is so exactly where s > 1,000,000.
     pub held: bool,
 }
 
@@ -26,7 +31,7 @@ pub struct Totals {
     /// Kept starts: moves whose subpath has a drawn verb.
     pub starts: usize,
     pub lines: usize,
-    /// The sum of all curves' N.
+    /// The sum of all curves' N (see [`SegmentCount`]).
     pub counts: usize,
     /// Added closings.
     pub closings: usize,
@@ -172,8 +177,8 @@ pub fn flatten(path: &Path, tolerance: f32) -> Result<Polylines, Refusal> {
     Ok(Polylines { points, ends, totals })
 }
 
-/// The N that the curve at a verb's index is flattened with, and whether it was held back: 0 and false for a verb that is no curve, and past the end. To
-/// find all that are held back, ask [`held_curves`], which reads the path once.
+/// The N that the curve at a verb's index is flattened with, and whether it was held back: 0 and false for a verb that is no curve, and past the
+/// end. To find all that are held back, ask [`held_curves`], which reads the path once.
 ///
 /// ```
 /// # fn main() -> Result<(), hizlaou::Refusal> {
@@ -263,8 +268,8 @@ pub fn tolerance_for_scale(tolerance: f32, max_scale: f32) -> f32 {
     unsafe { ffi::hz_tolerance_for_scale(tolerance, max_scale) }
 }
 
-/// The segment count of s, Wang's squared count: 1 for NaN or s <= 0, 1,000 for +∞, else the rounded root rounded up, at most 1,000. It was held back
-/// where s is +∞, or above 0 with its rounded root over 1,000.
+/// The segment count of s (see [`SegmentCount`]): 1 for NaN or s <= 0, 1,000 for +∞, else the rounded root rounded up, at most 1,000; and whether it
+/// was held back.
 ///
 /// ```
 /// use hizlaou::{segment_count, SegmentCount};
