@@ -31,8 +31,13 @@ fn grow(extent: &mut Option<Extent>, p: Option<(f64, f64)>) {
     e.max = (e.max.0.max(p.0), e.max.1.max(p.1));
 }
 
+/// Whether a point has a place in a picture.
+pub fn is_finite(p: &Vec2) -> bool {
+    p.x.is_finite() && p.y.is_finite()
+}
+
 fn finite(p: Vec2) -> Option<(f64, f64)> {
-    (p.x.is_finite() && p.y.is_finite()).then(|| (f64::from(p.x), f64::from(p.y)))
+    is_finite(&p).then(|| (f64::from(p.x), f64::from(p.y)))
 }
 
 fn all_finite(points: &[Vec2]) -> Option<Vec<(f64, f64)>> {

@@ -29,12 +29,6 @@ pub struct Curve {
     pub points: Vec<Vec2>,
 }
 
-impl Curve {
-    pub fn is_finite(&self) -> bool {
-        self.points.iter().all(|p| p.x.is_finite() && p.y.is_finite())
-    }
-}
-
 /// The curves of a path, first to last.
 pub fn curves(path: &Path) -> impl Iterator<Item = Curve> + '_ {
     let mut pen = Pen::default();

@@ -12,6 +12,7 @@ pub struct Held {
     pub found: Vec<Curve>,
 }
 
+/// No curve was held back.
 pub static NONE: Held = Held { number: 0, found: Vec::new() };
 
 impl Held {

@@ -1,6 +1,6 @@
 //! The legend below a picture: what each mark is and how many there are, and the order in numbers.
 use crate::answer::Answer;
-use crate::canvas::{px, Fit};
+use crate::canvas::{is_finite, px, Fit};
 use crate::number::{count, Exact};
 use crate::order::rule_name;
 use crate::picture::{xml, Scene, HELD, MARGIN, MOST_MARKS, WIDTH};
@@ -95,7 +95,7 @@ fn facts(scene: &Scene) -> Vec<(&'static str, String)> {
 /// What the picture doesn't show.
 fn notes(scene: &Scene, fit: &Fit) -> Vec<String> {
     let mut notes = Vec::new();
-    let lost = scene.polylines.points().iter().filter(|p| !(p.x.is_finite() && p.y.is_finite())).count();
+    let lost = scene.polylines.points().iter().filter(|p| !is_finite(p)).count();
     if lost > 0 {
         notes.push(format!("Not shown: {} with a coordinate that is not finite.", count(lost, "flattened point")));
     }

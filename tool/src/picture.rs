@@ -1,6 +1,6 @@
 //! The preview: outline, runs, flattened points and corners, under loud warnings and over a legend.
 use crate::answer::Answer;
-use crate::canvas::{px, Extent, Fit};
+use crate::canvas::{is_finite, px, Extent, Fit};
 use crate::curve::Curve;
 use crate::held::which;
 use crate::json::runs;
@@ -48,7 +48,7 @@ impl Scene<'_> {
 
     /// The curves held back that the picture shows: of the first ones those that are finite.
     pub fn marked_curves(&self) -> impl Iterator<Item = &Curve> {
-        self.answer.held().curves().iter().take(MOST_MARKS).filter(|curve| curve.is_finite())
+        self.answer.held().curves().iter().take(MOST_MARKS).filter(|curve| curve.points.iter().all(is_finite))
     }
 }
 
