@@ -1,4 +1,4 @@
--- The starred examples of the scope, together, computed from the definitions: tolerance 0.25, phase 0. Assumes nothing.
+-- The starred examples of the scope and five of W2, together, computed from the definitions: tolerance 0.25, phase 0. Assumes nothing.
 use mathlib.Core.Path.{_≡_, refl}
 use mathlib.Core.Bool.{true, false}
 use mathlib.Core.List.{List, [], _∷_}

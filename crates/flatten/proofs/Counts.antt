@@ -1,4 +1,4 @@
--- The count of one verb: its loop, its ways out, and that it is the N that the curve is written with (`asked`). Assumes nothing.
+-- The count of one verb and whether it was held back: its loop, its ways out, and that it is what the curve is written with (`asked`). Assumes nothing.
 use mathlib.Core.Path.{_≡_, refl, _∙_}
 use mathlib.Core.Bool.{true, false}
 use mathlib.Core.List.{List, [], _∷_, _++_}

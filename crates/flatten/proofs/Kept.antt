@@ -25,7 +25,7 @@ use Rattle.flatten.proofs.Ends.{stands, in-order}
 use Rattle.flatten.proofs.Counts.{asked}
 use Rattle.flatten.proofs.Call.{first-false}
 
--- held back where it should be
+-- just the curves with 1,000² < s are held back
 held-at : (tol : Float) (w : Spot) (s : Segment) → HeldAt tol w s (record { count = places tol w s; held = isHeld tol w s })
 unfolding places isHeld
 held-at tol w (Move p) = refl
