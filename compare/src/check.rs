@@ -1,6 +1,7 @@
 //! One case through both sides: every answer and every buffer of the library against the Rust source, the numbers, and, for curves held back, the
 //! request.
 use crate::case::{self, Call, Case, Point, Rng};
+use crate::reference::{apply, curve_count, rule_of, v2};
 use crate::{held, numbers};
 use hizlaou::ffi::{self, Builder};
 use hizlaou::{SegmentCount, Vec2 as Pt};
@@ -108,10 +109,6 @@ fn counts(question: &str, got: SegmentCount, n: u32, s: f32) -> Checked {
     equal(question, (got.count, got.held), (n, held::held(s)))
 }
 
-fn v2(p: Point) -> Vec2 {
-    Vec2::new(p[0], p[1])
-}
-
 fn pt(p: Point) -> Pt {
     Pt::new(p[0], p[1])
 }
@@ -144,14 +141,6 @@ fn bytes(p: &Path) -> Vec<u8> {
 
 fn floats<'a>(ps: impl IntoIterator<Item = &'a Vec2>) -> Vec<f32> {
     ps.into_iter().flat_map(|p| [p.x, p.y]).collect()
-}
-
-fn rule_of(n: u8) -> FillRule {
-    if n == 0 {
-        FillRule::NonZero
-    } else {
-        FillRule::EvenOdd
-    }
 }
 
 // ---- buffers
@@ -231,20 +220,6 @@ fn lengths(r: &mut Rng, a: usize, b: usize) -> (usize, usize) {
 }
 
 // ---- building
-
-fn apply(mut b: PathBuilder, call: &Call) -> PathBuilder {
-    match *call {
-        Call::Move(p) => drop(b.move_to(v2(p))),
-        Call::Line(p) => drop(b.line_to(v2(p))),
-        Call::Quad(c, p) => drop(b.quad_to(v2(c), v2(p))),
-        Call::Conic(c, p, w) => drop(b.conic_to(v2(c), v2(p), w)),
-        Call::Cubic(c, d, p) => drop(b.cubic_to(v2(c), v2(d), v2(p))),
-        Call::Close => drop(b.close()),
-        Call::Rule(n) => return b.with_fill_rule(rule_of(n)),
-        Call::Note(lo, hi, radius) => drop(b.as_rounded_rect(Rect::new(v2(lo), v2(hi)), radius)),
-    }
-    b
-}
 
 /// A state with its bytes as the library returns them.
 fn normal(mut s: Builder) -> Builder {
@@ -496,17 +471,6 @@ impl Flat {
             seen(what);
         }
     }
-}
-
-/// The N of a curve by the source, and its s; None for a verb that is no curve.
-fn curve_count(pen: Vec2, p: &[Vec2], tolerance: f32) -> Option<(usize, f32)> {
-    let n = match *p {
-        [c, to] => curves::quad_segment_count(pen, c, to, tolerance),
-        [c, d, to] => curves::cubic_segment_count(pen, c, d, to, tolerance),
-        _ => return None,
-    };
-    let curve: Vec<Point> = [&[pen], p].concat().iter().map(|p| [p.x, p.y]).collect();
-    Some((n as usize, held::squared(&curve, tolerance)))
 }
 
 fn reference_flat(path: &Path, tolerance: f32) -> (Flat, Vec<Vec<Vec2>>) {

@@ -1,6 +1,7 @@
 //! Whether a count was held back, written from the request and from the scope's "Count" alone. The source answers N and nothing of this, so s is
 //! worked out here, each step rounded once.
 use crate::case::Point;
+use source::Vec2;
 
 /// The last s that isn't held back: its root is 1,000, and the next float's rounded root is over it.
 pub const EDGE: f32 = 1_000_000.0;
@@ -38,6 +39,12 @@ pub fn dividend(curve: &[Point]) -> f32 {
 /// The s of a quad or a cubic at a tolerance.
 pub fn squared(curve: &[Point], tolerance: f32) -> f32 {
     dividend(curve) / (4.0 * larger(tolerance, LEAST_TOLERANCE))
+}
+
+/// The s of a quad or a cubic that starts at the pen and uses these points.
+pub fn squared_from(pen: Vec2, p: &[Vec2], tolerance: f32) -> f32 {
+    let curve: Vec<Point> = [&[pen], p].concat().iter().map(|p| [p.x, p.y]).collect();
+    squared(&curve, tolerance)
 }
 
 /// Whether the count of s is held back.

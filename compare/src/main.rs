@@ -7,6 +7,7 @@ mod case;
 mod check;
 mod held;
 mod numbers;
+mod reference;
 
 use case::{at_edge, random, text, Case, Rng};
 use std::sync::atomic::{AtomicU64, Ordering};

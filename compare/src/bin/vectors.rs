@@ -12,33 +12,17 @@ mod case;
 #[path = "../held.rs"]
 #[allow(dead_code)]
 mod held;
+#[path = "../reference.rs"]
+mod reference;
 
 use case::{Call, Case, Rng};
+use reference::{apply, curve_count};
 use source::dash::{dash_path, Dash};
 use source::flatten::{self as curves, flatten};
 use source::path::{polygon_convexity, Convexity, FillRule, Path, PathBuilder, Rect, Verb};
 use source::Vec2;
 use std::collections::HashMap;
 use std::io::Write;
-
-fn v2(p: [f32; 2]) -> Vec2 {
-    Vec2::new(p[0], p[1])
-}
-
-fn apply(mut b: PathBuilder, call: &Call) -> PathBuilder {
-    match *call {
-        Call::Move(p) => drop(b.move_to(v2(p))),
-        Call::Line(p) => drop(b.line_to(v2(p))),
-        Call::Quad(c, p) => drop(b.quad_to(v2(c), v2(p))),
-        Call::Conic(c, p, w) => drop(b.conic_to(v2(c), v2(p), w)),
-        Call::Cubic(c, d, p) => drop(b.cubic_to(v2(c), v2(d), v2(p))),
-        Call::Close => drop(b.close()),
-        Call::Rule(0) => return b.with_fill_rule(FillRule::NonZero),
-        Call::Rule(_) => return b.with_fill_rule(FillRule::EvenOdd),
-        Call::Note(lo, hi, radius) => drop(b.as_rounded_rect(Rect::new(v2(lo), v2(hi)), radius)),
-    }
-    b
-}
 
 /// A call as seven words.
 fn call_words(c: &Call) -> [u32; 7] {
@@ -212,13 +196,7 @@ impl Answers {
 
     /// The N of a quad or a cubic by the source, and its s.
     fn count(&mut self, pen: Vec2, p: &[Vec2], tolerance: f32) -> (usize, f32) {
-        let n = match *p {
-            [c, to] => curves::quad_segment_count(pen, c, to, tolerance) as usize,
-            [c, d, to] => curves::cubic_segment_count(pen, c, d, to, tolerance) as usize,
-            _ => unreachable!("a curve uses two or three points"),
-        };
-        let curve: Vec<case::Point> = [&[pen], p].concat().iter().map(|p| [p.x, p.y]).collect();
-        let s = held::squared(&curve, tolerance);
+        let (n, s) = curve_count(pen, p, tolerance).expect("a curve uses two or three points");
         let wild = p.iter().any(|p| !p.is_finite()) || !pen.is_finite();
         self.shows.push(format!("count {} of {} tolerance {} wild {wild}", size(n), p.len(), like(tolerance)));
         if n == 1000 {
