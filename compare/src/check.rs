@@ -80,7 +80,7 @@ fn equal<T: PartialEq + Debug>(question: &str, got: T, want: T) -> Checked {
         return Ok(());
     }
     let cut = |t: T| format!("{t:x?}").chars().take(300).collect::<String>();
-    Err((question.into(), format!("library {}, source {}", cut(got), cut(want))))
+    Err((question.into(), format!("library {}, wanted {}", cut(got), cut(want))))
 }
 
 /// A refusal's number, counted.
@@ -167,7 +167,7 @@ impl Floats {
             let (w, computed) = self.want[i];
             let x = self.lent[i];
             if bits(x) != w && !(computed && x.is_nan() && f32::from_bits(w).is_nan()) {
-                return Err((question.into(), format!("float {i}: library {:08x}, source {w:08x}", bits(x))));
+                return Err((question.into(), format!("float {i}: library {:08x}, wanted {w:08x}", bits(x))));
             }
         }
         Ok(())

@@ -1,5 +1,6 @@
-//! Whether a count was held back, written from the request and from the scope's "Count" alone. The source answers N and nothing of this, so s is
-//! worked out here, each step rounded once.
+//! Whether a count was held back, written from the request and from the scope's "Count". The source answers N and nothing of this, so s is worked
+//! out here, each step rounded once. The order of the steps is the source's, as the scope has it; that a second difference is a − b·2 + c, from left
+//! to right, only the source says.
 use crate::case::Point;
 use source::Vec2;
 
