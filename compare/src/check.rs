@@ -471,6 +471,16 @@ impl Flat {
             seen(what);
         }
     }
+    /// Ends a subpath, with a mark for each of its points that is computed: it is the source's next polyline, and none where it is a move alone.
+    fn end(&mut self, marks: &mut Vec<bool>, polylines: &[Vec<Vec2>]) {
+        if marks.len() > 1 {
+            let line = &polylines[self.ends.len()];
+            assert_eq!(line.len(), marks.len(), "the source's polyline");
+            self.points.extend(line.iter().zip(marks.iter()).flat_map(|(p, m)| [(p.x, *m), (p.y, *m)]));
+            self.ends.push(self.points.len() / 2);
+        }
+        marks.clear();
+    }
 }
 
 fn reference_flat(path: &Path, tolerance: f32) -> (Flat, Vec<Vec<Vec2>>) {
@@ -478,20 +488,11 @@ fn reference_flat(path: &Path, tolerance: f32) -> (Flat, Vec<Vec<Vec2>>) {
     let mut flat = Flat::default();
     let (mut pen, mut start) = (Vec2::ZERO, Vec2::ZERO);
     let mut marks: Vec<bool> = Vec::new();
-    let end = |flat: &mut Flat, marks: &mut Vec<bool>| {
-        if marks.len() > 1 {
-            let line = &polylines[flat.ends.len()];
-            assert_eq!(line.len(), marks.len(), "the source's polyline");
-            flat.points.extend(line.iter().zip(marks.iter()).flat_map(|(p, m)| [(p.x, *m), (p.y, *m)]));
-            flat.ends.push(flat.points.len() / 2);
-        }
-        marks.clear();
-    };
     for (verb, p) in path.segments() {
         let count = curve_count(pen, p, tolerance);
         match verb {
             Verb::MoveTo => {
-                end(&mut flat, &mut marks);
+                flat.end(&mut marks, &polylines);
                 start = p[0];
                 marks.push(false);
             }
@@ -515,7 +516,7 @@ fn reference_flat(path: &Path, tolerance: f32) -> (Flat, Vec<Vec<Vec2>>) {
         flat.each.push(count);
         pen = *p.last().unwrap_or(&start);
     }
-    end(&mut flat, &mut marks);
+    flat.end(&mut marks, &polylines);
     assert_eq!(flat.ends.len(), polylines.len(), "the source's polylines");
     (flat, polylines)
 }
@@ -527,6 +528,9 @@ struct Given {
 }
 
 impl Given {
+    fn of(path: &Path) -> Given {
+        Given { verbs: bytes(path), points: floats(path.points()) }
+    }
     fn ask<R>(&self, call: impl FnOnce(*const u8, usize, *const f32, usize) -> R) -> R {
         call(self.verbs.as_ptr(), self.verbs.len(), self.points.as_ptr(), self.points.len())
     }
@@ -574,6 +578,12 @@ fn carried(g: &Given, tolerance: f32, flat: &Flat) -> Checked {
 struct Cut {
     verbs: Vec<u8>,
     points: Vec<(f32, bool)>,
+}
+
+impl Cut {
+    fn of(path: &Path) -> Cut {
+        Cut { verbs: bytes(path), points: floats(path.points()).into_iter().map(|x| (x, true)).collect() }
+    }
 }
 
 /// The buffers lent for dashing: the scratch's points and ends, and the dash's.
@@ -675,11 +685,16 @@ fn dashing(
     refused("dash refusal", got.refused, number)?;
     equal("dash answer", ([got.verbs, got.points, got.scratch, got.polylines, got.held], got.kind, got.fill_rule), want)?;
     lent.all()?;
+    drawn(g, &lent.points.lent, got)
+}
+
+/// Which part is drawn, by an answer of dashing: the path's own points, or the filled part of the dash buffer.
+fn drawn(g: &Given, dash: &[f32], answer: ffi::Dashed) -> Checked {
     // SAFETY: both buffers are read.
-    let part = unsafe { ffi::hz_drawn_outline(g.points.as_ptr(), g.points.len(), g.points.len() / 2, lent.points.lent.as_ptr(), dash_lens.0, got) };
-    let want = match got.kind {
+    let part = unsafe { ffi::hz_drawn_outline(g.points.as_ptr(), g.points.len(), g.points.len() / 2, dash.as_ptr(), dash.len(), answer) };
+    let want = match answer.kind {
         0 => (0, g.points.len() / 2 * 2),
-        1 => (1, 2 * got.points),
+        1 => (1, 2 * answer.points),
         _ => (1, 0),
     };
     equal("drawn outline", (part.from_dash, part.floats), want)
@@ -883,6 +898,31 @@ fn values(r: &mut Rng, c: &Case) -> Checked {
     }
 }
 
+/// The pattern along the path that `b` has built, where the source does not walk too long.
+fn dashed(r: &mut Rng, c: &Case, mut b: PathBuilder, given: &Given, flat: &Flat, polylines: &[Vec<Vec2>]) -> Checked {
+    let dash = Dash::new(c.intervals.clone(), c.phase);
+    let limit = if r.one_in(512) { 200_000.0 } else { 4_000.0 };
+    let over = c.intervals.iter().map(|v| f64::from(*v)).sum::<f64>() * 2.1 > f64::from(c.tolerance);
+    if dash.is_usable() && over && !(work(polylines, &c.intervals) < limit) {
+        seen(12);
+        return Ok(());
+    }
+    // A note on the path tells Whole, a copy that keeps it, from Cut, which has none.
+    b.as_rounded_rect(Rect::new(Vec2::ZERO, Vec2::ZERO), 1.0);
+    let path = b.build();
+    let cut = dash_path(&path, &dash, c.tolerance);
+    let whole = cut.as_rounded_rect().is_some();
+    seen(10 + usize::from(!whole));
+    if !whole {
+        equal("the source's rule", cut.fill_rule(), path.fill_rule())?;
+    }
+    let cut = Cut::of(&cut);
+    let rule = if path.fill_rule() == FillRule::NonZero { 0 } else { 1 + r.below(255) as u8 };
+    let scratch = lengths(r, flat.points.len(), flat.ends.len());
+    let scratch = if r.one_in(2) { (flat.points.len(), flat.ends.len()) } else { scratch };
+    dashing(given, c, rule, Some(flat), whole, Some(&cut), scratch, lengths(r, cut.points.len(), cut.verbs.len()))
+}
+
 /// The whole case.
 pub fn case(c: &Case) -> Checked {
     let r = &mut Rng::new(c.seed, 0);
@@ -900,32 +940,12 @@ pub fn case(c: &Case) -> Checked {
     if r.one_in(4) {
         damaged_state(r, state, lens)?;
     }
-    let given = Given { verbs: bytes(&path), points: floats(path.points()) };
+    let given = Given::of(&path);
     questions(&given, &path, r)?;
     let (flat, polylines) = reference_flat(&path, c.tolerance);
     flattening(&given, c.tolerance, Some(&flat), lengths(r, flat.points.len(), flat.ends.len()))?;
     carried(&given, c.tolerance, &flat)?;
-    let dash = Dash::new(c.intervals.clone(), c.phase);
-    let limit = if r.one_in(512) { 200_000.0 } else { 4_000.0 };
-    let over = c.intervals.iter().map(|v| f64::from(*v)).sum::<f64>() * 2.1 > f64::from(c.tolerance);
-    if dash.is_usable() && over && !(work(&polylines, &c.intervals) < limit) {
-        seen(12);
-    } else {
-        // A note on the path tells Whole, a copy that keeps it, from Cut, which has none.
-        b.as_rounded_rect(Rect::new(Vec2::ZERO, Vec2::ZERO), 1.0);
-        let noted = b.build();
-        let cut = dash_path(&noted, &dash, c.tolerance);
-        let whole = cut.as_rounded_rect().is_some();
-        seen(10 + usize::from(!whole));
-        if !whole {
-            equal("the source's rule", cut.fill_rule(), path.fill_rule())?;
-        }
-        let cut = Cut { verbs: bytes(&cut), points: floats(cut.points()).into_iter().map(|x| (x, true)).collect() };
-        let rule = if path.fill_rule() == FillRule::NonZero { 0 } else { 1 + r.below(255) as u8 };
-        let scratch = lengths(r, flat.points.len(), flat.ends.len());
-        let scratch = if r.one_in(2) { (flat.points.len(), flat.ends.len()) } else { scratch };
-        dashing(&given, c, rule, Some(&flat), whole, Some(&cut), scratch, lengths(r, cut.points.len(), cut.verbs.len()))?;
-    }
+    dashed(r, c, b, &given, &flat, &polylines)?;
     if r.one_in(8) {
         // over 64 intervals, on a path that may be refused for other reasons first
         let mut long = c.clone();
@@ -974,10 +994,8 @@ pub fn limits(r: &mut Rng) -> Checked {
         b.move_to(Vec2::ZERO).line_to(Vec2::new(length, 0.0));
         let path = b.build();
         let (flat, _) = reference_flat(&path, 0.25);
-        let cut = dash_path(&path, &Dash::new(c.intervals.clone(), 0.0), 0.25);
-        let cut = Cut { verbs: bytes(&cut), points: floats(cut.points()).into_iter().map(|x| (x, true)).collect() };
-        let g = Given { verbs: bytes(&path), points: floats(path.points()) };
-        dashing(&g, &c, 1, Some(&flat), false, Some(&cut), (4, 1), (140_000, 70_000))?;
+        let cut = Cut::of(&dash_path(&path, &Dash::new(c.intervals.clone(), 0.0), 0.25));
+        dashing(&Given::of(&path), &c, 1, Some(&flat), false, Some(&cut), (4, 1), (140_000, 70_000))?;
     }
     Ok(())
 }
