@@ -4,7 +4,7 @@ use crate::case::{self, Call, Case, Point, Rng};
 use crate::reference::{apply, curve_count, rule_of, v2};
 use crate::{held, numbers};
 use hizlaou::ffi::{self, Builder};
-use hizlaou::{SegmentCount, Vec2 as Pt};
+use hizlaou::{held_curves, SegmentCount, Vec2 as Pt};
 use source::dash::{dash_path, Dash};
 use source::flatten::{self as curves, flatten};
 use source::path::{polygon_convexity, Convexity, FillRule, Path, PathBuilder, Rect, Verb};
@@ -462,8 +462,12 @@ impl Flat {
     fn counts(&self) -> usize {
         self.each.iter().flatten().map(|(n, _)| n).sum()
     }
+    /// The verbs, by their index, whose curves are held back.
+    fn held_curves(&self) -> Vec<usize> {
+        (0..self.each.len()).filter(|i| self.each[*i].is_some_and(|(_, s)| held::held(s))).collect()
+    }
     fn held(&self) -> usize {
-        self.each.iter().flatten().filter(|(_, s)| held::held(*s)).count()
+        self.held_curves().len()
     }
     /// Counts an answer of kind `what` where curves are held back.
     fn seen_held(&self, what: usize) {
@@ -537,6 +541,12 @@ impl Given {
     fn refusal(&self) -> u8 {
         numbers::path(&self.verbs, self.points.len())
     }
+    /// The same in the Rust interface, which takes no path that is refused.
+    fn checked(&self) -> hizlaou::Path {
+        let verbs = self.verbs.iter().map(|v| hizlaou::Verb::from_byte(*v).expect("a verb")).collect();
+        let points = self.points.chunks(2).map(|p| Pt::new(p[0], p[1])).collect();
+        hizlaou::Path::from_parts(verbs, points, hizlaou::FillRule::NonZero).expect("a path")
+    }
 }
 
 /// Flattening into outputs of such lengths. `flat` is what is right where the path isn't refused.
@@ -564,7 +574,7 @@ fn flattening(g: &Given, tolerance: f32, flat: Option<&Flat>, lens: (usize, usiz
     ends.all("flattened ends")
 }
 
-/// The N of every verb and whether it was held back; past the end nothing.
+/// The N of every verb and whether it was held back, past the end nothing; and the verbs of all curves held back, which the Rust interface lists.
 fn carried(g: &Given, tolerance: f32, flat: &Flat) -> Checked {
     for i in (0..g.verbs.len() + 2).chain([usize::MAX]) {
         // SAFETY: the path is read.
@@ -572,7 +582,7 @@ fn carried(g: &Given, tolerance: f32, flat: &Flat) -> Checked {
         let want = flat.each.get(i).copied().flatten().map_or((0, false), |(n, s)| (n, held::held(s)));
         equal("carried count", (got.refused, got.count, got.held), (0, want.0, want.1))?;
     }
-    Ok(())
+    equal("held curves", held_curves(&g.checked(), tolerance), flat.held_curves())
 }
 
 struct Cut {
