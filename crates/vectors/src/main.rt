@@ -1,8 +1,8 @@
 // Replays answers of the Rust source. Standard input has a list of cases, made by `compare/vectors` (see there), in words of four bytes, low byte
 // first. A case: how many words follow; tolerance, phase and scale; the number of intervals, the intervals; the number of calls, the calls, seven
 // words each; and then every answer in the order in which `run` asks. A float is its pattern; every NaN is one here, since `from_bits` takes none.
-// The source does not say which curves are held back: these answers are worked out by the list's maker. The number of each case that differs is
-// written out.
+// The source does not say which curves are held back: the list's maker works these answers out, from the request. The number of each case that
+// differs is written out.
 ghost use Prim.Native.Nat.{_≤_, _<_};
 use builder::Call;
 use builder::CurrentPoint;
@@ -454,7 +454,7 @@ fn ask(
     expect_float(data, u, curve::tolerance_for_scale(tolerance, scale))
 }
 
-// Whether every answer of a case is the source's, and the list has no more of them.
+// Whether every answer of a case is the listed one, and no more are listed.
 fn run(data: &[u32], words: usize) -> bool {
     let mut intervals = [0.0f32; 64];
     let mut verbs = [0u8; 512];
@@ -505,5 +505,5 @@ fn main() {
         }
     }
     say(cases, b" cases\n");
-    say(right, b" as the source answers\n");
+    say(right, b" as the source and the request have it\n");
 }
