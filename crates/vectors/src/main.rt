@@ -368,7 +368,7 @@ fn expect_dashed(data: &[u32], t: Tape, d: Dashed, laid: &[u8], drawn: &[f32]) -
     }
 }
 
-// Dashes with room for every verb, and again with room for one, which mostly meets the second 3.
+// Dashes with room for as many verbs as `laid` takes.
 fn ask_dash(
     data: &[u32],
     t: Tape,
@@ -376,16 +376,13 @@ fn ask_dash(
     points: &[f32],
     rule: FillRule,
     intervals: &[f32],
-    phase: f32,
-    tolerance: f32,
+    laid: &mut [u8],
 ) -> Tape {
+    let tolerance = float_at(data, 0);
+    let phase = float_at(data, 1);
     let mut scratch = [0.0f32; 4096];
     let mut ends = [0usize; 256];
-    let mut laid = [0u8; 2048];
-    let mut single = [0u8; 1];
     let mut drawn = [0.0f32; 4096];
-    let usable = pattern::is_usable(intervals, phase);
-    let u = expect_flag(data, t, usable);
     let d = dash::dash_path(
         verbs,
         points,
@@ -395,23 +392,27 @@ fn ask_dash(
         tolerance,
         &mut scratch,
         &mut ends,
-        &mut laid,
+        laid,
         &mut drawn,
     );
-    let v = expect_dashed(data, u, d, &laid, &drawn);
-    let e = dash::dash_path(
-        verbs,
-        points,
-        rule,
-        intervals,
-        phase,
-        tolerance,
-        &mut scratch,
-        &mut ends,
-        &mut single,
-        &mut drawn,
-    );
-    expect_dashed(data, v, e, &single, &drawn)
+    expect_dashed(data, t, d, laid, &drawn)
+}
+
+// Whether the pattern is usable; dashes with room for every verb, and again with room for one, which mostly meets the second 3.
+fn ask_dashes(
+    data: &[u32],
+    t: Tape,
+    verbs: &[u8],
+    points: &[f32],
+    rule: FillRule,
+    intervals: &[f32],
+) -> Tape {
+    let mut many = [0u8; 2048];
+    let mut one = [0u8; 1];
+    let usable = pattern::is_usable(intervals, float_at(data, 1));
+    let u = expect_flag(data, t, usable);
+    let v = ask_dash(data, u, verbs, points, rule, intervals, &mut many);
+    ask_dash(data, v, verbs, points, rule, intervals, &mut one)
 }
 
 // Fills the pattern from word i on.
@@ -438,7 +439,6 @@ fn ask(
     intervals: &[f32],
 ) -> Tape {
     let tolerance = float_at(data, 0);
-    let phase = float_at(data, 1);
     let scale = float_at(data, 2);
     let rule = b.fill_rule;
     let mut u = expect_bytes(data, t, verbs);
@@ -450,7 +450,7 @@ fn ask(
     u = ask_convexity(data, u, verbs, points);
     u = ask_flatten(data, u, verbs, points, tolerance);
     u = ask_counts(data, u, verbs, points, tolerance);
-    u = ask_dash(data, u, verbs, points, rule, intervals, phase, tolerance);
+    u = ask_dashes(data, u, verbs, points, rule, intervals);
     expect_float(data, u, curve::tolerance_for_scale(tolerance, scale))
 }
 
