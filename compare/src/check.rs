@@ -462,12 +462,8 @@ impl Flat {
     fn counts(&self) -> usize {
         self.each.iter().flatten().map(|(n, _)| n).sum()
     }
-    /// The verbs, by their index, whose curves are held back.
-    fn held_curves(&self) -> Vec<usize> {
-        (0..self.each.len()).filter(|i| self.each[*i].is_some_and(|(_, s)| held::held(s))).collect()
-    }
     fn held(&self) -> usize {
-        self.held_curves().len()
+        held::curves(&self.each).len()
     }
     /// Counts an answer of kind `what` where curves are held back.
     fn seen_held(&self, what: usize) {
@@ -582,7 +578,7 @@ fn carried(g: &Given, tolerance: f32, flat: &Flat) -> Checked {
         let want = flat.each.get(i).copied().flatten().map_or((0, false), |(n, s)| (n, held::held(s)));
         equal("carried count", (got.refused, got.count, got.held), (0, want.0, want.1))?;
     }
-    equal("held curves", held_curves(&g.checked(), tolerance), flat.held_curves())
+    equal("held curves", held_curves(&g.checked(), tolerance), held::curves(&flat.each))
 }
 
 struct Cut {

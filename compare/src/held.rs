@@ -53,6 +53,11 @@ pub fn held(s: f32) -> bool {
     s == f32::INFINITY || (s > 0.0 && s.sqrt() > 1000.0)
 }
 
+/// The verbs, by their index, whose curves are held back: of each verb its curve's N and s.
+pub fn curves(each: &[Option<(usize, f32)>]) -> Vec<usize> {
+    (0..each.len()).filter(|i| each[*i].is_some_and(|(_, s)| held(s))).collect()
+}
+
 /// Whether s is the edge or at most four floats away from it.
 pub fn near_edge(s: f32) -> bool {
     s.to_bits().abs_diff(EDGE.to_bits()) <= 4
