@@ -5,7 +5,7 @@
 //!
 //! Cases are drawn as the comparison draws them, by a fixed seed. A case is kept if it shows something, in the list of `shows`, that fewer than
 //! two kept cases show: which way each call, each count, each closing, each reason for Whole and each verdict went. Small cases are drawn
-//! first; larger ones are kept only for what no small one shows.
+//! first; larger ones are kept only for what no small one shows, and the largest only for what must be shown.
 #[path = "../case.rs"]
 #[allow(dead_code)]
 mod case;
@@ -23,6 +23,7 @@ use source::path::{polygon_convexity, Convexity, FillRule, Path, PathBuilder, Re
 use source::Vec2;
 use std::collections::HashMap;
 use std::io::Write;
+use std::ops::Range;
 
 /// A call as seven words.
 fn call_words(c: &Call) -> [u32; 7] {
@@ -104,10 +105,10 @@ struct Answers {
     shows: Vec<String>,
 }
 
-/// A flattened path: its polylines, and for each verb its curve's N and s, 0 where it is none.
+/// A flattened path: its polylines, and for each verb its curve's N and s.
 struct Flat {
     polylines: Vec<Vec<Vec2>>,
-    each: Vec<(usize, f32)>,
+    each: Vec<Option<(usize, f32)>>,
 }
 
 impl Flat {
@@ -115,7 +116,7 @@ impl Flat {
         self.polylines.iter().flatten().copied().collect()
     }
     fn held(&self) -> usize {
-        self.each.iter().filter(|(_, s)| held::held(*s)).count()
+        held::curves(&self.each).len()
     }
     fn lengths(&self) -> Vec<f32> {
         self.polylines.iter().flat_map(|l| l.windows(2)).map(|w| (w[1] - w[0]).length()).collect()
@@ -194,9 +195,9 @@ impl Answers {
         self.shows.push(format!("convex {own} {polygon} of {} repeats {repeats} curved {curved} finite {}", size(ps.len()), path.is_finite()));
     }
 
-    /// The N of a quad or a cubic by the source, and its s.
-    fn count(&mut self, pen: Vec2, p: &[Vec2], tolerance: f32) -> (usize, f32) {
-        let (n, s) = curve_count(pen, p, tolerance).expect("a curve uses two or three points");
+    /// The N of a curve by the source, and its s; None for a verb that is no curve.
+    fn count(&mut self, pen: Vec2, p: &[Vec2], tolerance: f32) -> Option<(usize, f32)> {
+        let (n, s) = curve_count(pen, p, tolerance)?;
         let wild = p.iter().any(|p| !p.is_finite()) || !pen.is_finite();
         self.shows.push(format!("count {} of {} tolerance {} wild {wild}", size(n), p.len(), like(tolerance)));
         if n == 1000 {
@@ -206,18 +207,17 @@ impl Answers {
             let beyond = i64::from(s.to_bits()) - i64::from(held::EDGE.to_bits());
             self.shows.push(format!("{} at {beyond} from the edge", p.len()));
         }
-        (n, s)
+        Some((n, s))
     }
 
     /// Flattens by the source, and asks for the count of every verb.
     fn flat(&mut self, path: &Path, tolerance: f32) -> Flat {
         let (mut pen, mut start, mut each) = (Vec2::ZERO, Vec2::ZERO, Vec::new());
         for (verb, p) in path.segments() {
-            let mut count = (0, 0.0);
+            each.push(self.count(pen, p, tolerance));
             match verb {
                 Verb::MoveTo => start = p[0],
-                Verb::LineTo => (),
-                Verb::QuadTo | Verb::CubicTo => count = self.count(pen, p, tolerance),
+                Verb::LineTo | Verb::QuadTo | Verb::CubicTo => (),
                 Verb::Close => self.shows.push(format!(
                     "close at start {} bits {} start {} {}",
                     pen == start,
@@ -226,7 +226,6 @@ impl Answers {
                     like(start.y)
                 )),
             }
-            each.push(count);
             pen = *p.last().unwrap_or(&start);
         }
         Flat { polylines: flatten(path, tolerance), each }
@@ -236,9 +235,12 @@ impl Answers {
         let (points, starts) = (flat.points(), flat.polylines.len());
         let of = |verb: Verb| path.verbs().iter().filter(|v| **v == verb).count();
         let (lines, moves) = (of(Verb::LineTo), of(Verb::MoveTo));
-        let counts: usize = flat.each.iter().map(|(n, _)| n).sum();
+        let counts: usize = flat.each.iter().flatten().map(|(n, _)| n).sum();
         let closings = points.len() - starts - lines - counts;
         self.shows.push(format!("flat {} of {} moves, closings {}", size(starts), size(moves), closings.min(3)));
+        if let [first, .., last] = held::curves(&flat.each)[..] {
+            self.shows.push(format!("{} held, a move between {}", flat.held(), path.verbs()[first..last].contains(&Verb::MoveTo)));
+        }
         let w = &mut self.words;
         w.n(0);
         [starts, lines, counts, closings, flat.held()].iter().for_each(|n| w.n(*n));
@@ -249,9 +251,9 @@ impl Answers {
             end += l.len();
             w.n(end);
         }
-        for (n, s) in &flat.each {
-            w.n(*n);
-            w.n(usize::from(held::held(*s)));
+        for (n, s) in flat.each.iter().map(|count| count.unwrap_or((0, 0.0))) {
+            w.n(n);
+            w.n(usize::from(held::held(s)));
         }
     }
 
@@ -333,15 +335,16 @@ fn answered(c: &Case, most: usize) -> Option<Answers> {
     a.words.f(scaled);
     a.shows.push(format!("scaled {} by {} {}", like(scaled), like(c.scale), c.scale < 0.0));
     let given = path.verbs().len() <= 500 && path.points().len() <= 1000;
-    let fits = given && flat.points().len() <= 2000 && flat.polylines.len() <= 250 && cut.verbs().len() <= 2000;
+    let fits = given && flat.points().len() <= 2048 && flat.polylines.len() <= 250 && cut.verbs().len() <= 2000;
     (fits && a.words.0.len() <= most).then_some(a)
 }
 
 /// From this case on a curve is just held back, or just isn't.
 const FIRST_AT_EDGE: u64 = 280_000;
 
-/// What the list must show of curves that are held back: quads (2 points behind the pen) and cubics (3) at the edge, beyond it and far beyond it.
-const MUST: [&str; 13] = [
+/// What the list must show of curves that are held back: quads (2 points behind the pen) and cubics (3) at the edge, beyond it and far beyond it; one
+/// or two of them in each answer of dashing.
+const MUST: [&str; 17] = [
     "1,000 of 2 held false infinite false",
     "1,000 of 2 held true infinite false",
     "1,000 of 2 held true infinite true",
@@ -355,6 +358,30 @@ const MUST: [&str; 13] = [
     "cut held 1",
     "no room held 1",
     "whole held 1",
+    "cut held 2",
+    "no room held 2",
+    "whole held 2",
+    "2 held, a move between true",
+];
+
+/// Cases that are drawn, by their numbers, and which of them are kept.
+struct Round {
+    numbers: Range<u64>,
+    /// The most words.
+    words: usize,
+    /// A thing is shown often enough by so many cases.
+    enough: u32,
+    /// A case must show so many things that no case before it shows, or one such of `MUST`.
+    new: usize,
+}
+
+const ROUNDS: [Round; 5] = [
+    Round { numbers: 0..60_000, words: 110, enough: 2, new: 0 },
+    Round { numbers: 60_000..200_000, words: 190, enough: 1, new: 0 },
+    Round { numbers: 200_000..260_000, words: 560, enough: 1, new: 2 },
+    Round { numbers: 260_000..300_000, words: 4000, enough: 1, new: 2 },
+    // Only for what must be shown: two curves held back have 2,001 points at least, and fill a case.
+    Round { numbers: 300_000..340_000, words: 4096, enough: 1, new: usize::MAX },
 ];
 
 fn main() {
@@ -362,19 +389,18 @@ fn main() {
     let mut seen: HashMap<String, u32> = HashMap::new();
     let mut out = std::io::BufWriter::new(std::io::stdout().lock());
     let (mut kept, mut words) = (0, 0);
-    let rounds = [(0..60_000u64, 110, 2), (60_000..200_000, 190, 1), (200_000..260_000, 560, 1), (260_000..300_000, 4090, 1)];
-    for (number, most, enough) in rounds.into_iter().flat_map(|(numbers, most, enough)| numbers.map(move |n| (n, most, enough))) {
+    for (number, round) in ROUNDS.iter().flat_map(|round| round.numbers.clone().map(move |n| (n, round))) {
         let r = &mut Rng::new(1, number);
         let mut c = case::random(r, 24);
         if number >= FIRST_AT_EDGE {
             c = case::at_edge(r, c);
         }
-        let Some(Answers { words: Words(w), shows }) = answered(&c, most) else { continue };
+        let Some(Answers { words: Words(w), shows }) = answered(&c, round.words) else { continue };
         let new: Vec<&str> = shows.iter().map(String::as_str).filter(|s| !seen.contains_key(*s)).collect();
-        if most > 200 && new.len() < 2 && !new.iter().any(|s| MUST.contains(s)) {
+        if new.len() < round.new && !new.iter().any(|s| MUST.contains(s)) {
             continue;
         }
-        if shows.iter().all(|s| seen.get(s).copied().unwrap_or(0) >= enough) {
+        if shows.iter().all(|s| seen.get(s).copied().unwrap_or(0) >= round.enough) {
             continue;
         }
         shows.into_iter().for_each(|s| *seen.entry(s).or_default() += 1);
