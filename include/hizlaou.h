@@ -113,10 +113,10 @@ typedef struct {
     uint8_t known;
 } HzNote;
 
-/* N, the number of straight segments that a curve is cut into, and whether it was held back at HZ_MAX_SEGMENTS. Wang's formula says how many
- * segments a curve needs so that none lies further off it than the tolerance; s is the square of that number, as a float. An infinite coordinate, or an
- * overflow on the way, can make s +inf. A curve that needs more than HZ_MAX_SEGMENTS gets just so many: it is held back, and may look faceted. A count
- * of HZ_MAX_SEGMENTS alone does not say so: it is also the right one for a curve that needs just so many. */
+/* N, the number of straight segments that a curve becomes, and whether it was held back at HZ_MAX_SEGMENTS. Wang's formula says how many segments
+ * are enough for none to lie further off the curve than the tolerance; s is the square of that number, as a float. An infinite coordinate, or an
+ * overflow on the way, can make s +inf. A curve for which it asks for more than HZ_MAX_SEGMENTS gets just so many: it is held back, and may look
+ * faceted. A count of HZ_MAX_SEGMENTS alone does not say so: it is also the right one for a curve for which it asks for just so many. */
 typedef struct {
     uint32_t count;           /* N, 1 to HZ_MAX_SEGMENTS */
     bool held;                /* held back: s is +inf or its rounded root is over HZ_MAX_SEGMENTS, which is so exactly where s > 1,000,000 */

@@ -8,11 +8,12 @@ pub const DEFAULT_TOLERANCE: f32 = 0.25;
 /// The most segments of a single curve.
 pub const MAX_SEGMENTS: u32 = 1000;
 
-/// N, the number of straight segments that a curve is cut into, and whether it was held back at [`MAX_SEGMENTS`].
+/// N, the number of straight segments that a curve becomes, and whether it was held back at [`MAX_SEGMENTS`].
 ///
-/// Wang's formula says how many segments a curve needs so that none lies further off it than the tolerance; s is the square of that number, as a
-/// float. An infinite coordinate, or an overflow on the way, can make s +∞. A curve that needs more than 1,000 segments gets just so many: it is held
-/// back, and may look faceted. A count of 1,000 alone does not say so, since it is also the right one for a curve that needs just so many.
+/// Wang's formula says how many segments are enough for none to lie further off the curve than the tolerance; s is the square of that number, as a
+/// float. An infinite coordinate, or an overflow on the way, can make s +∞. A curve for which it asks for more than 1,000 segments gets just so many:
+/// it is held back, and may look faceted. A count of 1,000 alone does not say so, since it is also the right one for a curve for which it asks for just
+/// so many.
 #[repr(C)]
 #[derive(Debug, Clone, Copy, PartialEq, Eq, Hash, Default)]
 pub struct SegmentCount {

@@ -17,6 +17,7 @@ use Rattle.capi.specs.declared.HzDashed.{HzDashed}
 use Rattle.capi.specs.declared.HzOutline.{HzOutline}
 use Rattle.capi.specs.Builder.{ruleIn, ruleOut, flagIn, flagOut}
 
+-- what is not cut: `held` is the answer's, 0
 abbrev pub uncut : ℕ → ℕ → ℕ → HzDashed
 uncut kind held refused = record { verbs = 0; points = 0; scratch = 0; polylines = 0; held = held; kind = kind; «fill_rule» = 0; refused = refused }
 

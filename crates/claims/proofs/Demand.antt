@@ -15,8 +15,8 @@ use Rattle.flatten.specs.Kept.{Kept}
 use Rattle.flatten.proofs.Counts.{asked}
 use Rattle.flatten.proofs.Kept.{call-kept}
 use Rattle.dash.specs.Runs.{CutIntoRuns}
-use Rattle.dash.proofs.Runs.{dash-runs}
-use Rattle.claims.specs.Demand.{built, flattening, dashing, Builds, Flattens, Carries, Dashes, Demand3}
+use Rattle.dash.proofs.Runs.{dash-runs, dash-uncut}
+use Rattle.claims.specs.Demand.{built, flattening, dashing, Builds, Flattens, Carries, Dashes, Uncut, Demand3}
 
 builds : Builds
 builds cs bs fs = (good cs bs fs, kept.built cs bs fs)
@@ -38,5 +38,9 @@ dashes cs bs fs rule intervals phase tolerance scratch ends verbs points o h =
     (dash-runs (pathVerbs (built cs bs fs)) (pathFloats (built cs bs fs)) rule intervals phase tolerance scratch ends verbs points
     (dashing cs bs fs rule intervals phase tolerance scratch ends verbs points) o refl h)
 
+uncut : Uncut
+uncut cs bs fs rule intervals phase tolerance scratch ends verbs points =
+    dash-uncut (pathVerbs (built cs bs fs)) (pathFloats (built cs bs fs)) rule intervals phase tolerance scratch ends verbs points
+
 pub demand3 : Demand3
-demand3 = record { builds = builds; flattens = flattens; carries = carries; dashes = dashes }
+demand3 = record { builds = builds; flattens = flattens; carries = carries; dashes = dashes; uncut = uncut }

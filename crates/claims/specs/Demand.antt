@@ -4,7 +4,7 @@ use mathlib.Core.Path.{_≡_}
 use Prim.Native.Nat.{ℕ, _*_}
 use mathlib.Core.Bool.{true}
 use mathlib.Core.List.{List, _∷_, _++_}
-use mathlib.Core.Option.{some}
+use mathlib.Core.Option.{none, some}
 use lib.ListN.{length, take}
 use lib.Ieee.{Float}
 use Rattle.vec2.specs.Points.{pointsIn}
@@ -57,8 +57,8 @@ abbrev pub dashing : List Call → List ℕ → List Float → FillRule → List
 dashing cs bs fs rule intervals phase tolerance scratch ends verbs points =
     dash.dashing (pathVerbs (built cs bs fs)) (pathFloats (built cs bs fs)) rule intervals phase tolerance scratch ends verbs points
 
--- Where dashing cuts that path, its output is the walk's of every polyline, none left out, and that is runs and nothing else. It says how many curves of
--- the laid list were held back (W2).
+-- Where dashing cuts that path, its output is the walk's of every polyline, none left out, and that is runs and nothing else. Its answer says how many curves
+-- of the laid list were held back (W2).
 abbrev pub Dashes : Type 0
 Dashes =
     (cs : List Call) (bs : List ℕ) (fs : List Float) (rule : FillRule) (intervals : List Float) (phase tolerance : Float)
@@ -66,8 +66,17 @@ Dashes =
     let d = dashing cs bs fs rule intervals phase tolerance scratch ends verbs points in
     d .reply .cut ≡ some o → CutIntoRuns (laidBy cs bs fs) intervals phase tolerance rule o d
 
+-- W2: where it doesn't cut that path, which is drawn whole or refused, its answer says that no curve was held back.
+abbrev pub Uncut : Type 0
+Uncut =
+    (cs : List Call) (bs : List ℕ) (fs : List Float) (rule : FillRule) (intervals : List Float) (phase tolerance : Float)
+    (scratch : List Float) (ends verbs : List ℕ) (points : List Float) →
+    let d = dashing cs bs fs rule intervals phase tolerance scratch ends verbs points in
+    d .reply .cut ≡ none → d .reply .held ≡ 0
+
 pub record Demand3 : Type 0 where
   pub builds : Builds
   pub flattens : Flattens
   pub carries : Carries
   pub dashes : Dashes
+  pub uncut : Uncut

@@ -1,4 +1,5 @@
--- The filled part of the dash buffers is runs and nothing else, from the equation of `dash_path` alone. Assumes nothing.
+-- The filled part of the dash buffers is runs and nothing else, and what is not cut says that no curve was held back (W2), from the equation of `dash_path` alone.
+-- Assumes nothing.
 use mathlib.Core.Path.{_≡_, refl, sym, _∙_, ap, subst}
 use Prim.Native.Nat.{ℕ, zero, suc, _*_, _/_, _≤_}
 use native.Mathlib.Omega.{arith}
@@ -23,7 +24,7 @@ use Rattle.pattern.specs.Cycle.{cycleOf, period, cuts}
 use Rattle.walk.specs.Phase.{startOf}
 use Rattle.walk.proofs.Runs.{all-runs}
 use Rattle.dash.specs.declared.Outline.{Outline}
-use Rattle.dash.specs.Dash.{refusal, dashes, scratchFits, outFits, outlineFor, outIf, Outcome, keeping, keptIf, answered, dashing}
+use Rattle.dash.specs.Dash.{refusal, dashes, scratchFits, outFits, outlineFor, outIf, Outcome, keeping, keptIf, cutting, answered, dashing}
 use Rattle.dash.specs.Runs.{CutIntoRuns}
 use Rattle.dash.proofs.Caps.{both, fits}
 use Rattle.dash.proofs.Scratch.{front}
@@ -63,6 +64,7 @@ module _ (path : List Segment) (intervals : List Float) (phase tolerance : Float
         kept = kept;
         ended = ended;
         runs = rw (kept, ended) (all-runs (cycleOf intervals) (startOf (cycleOf intervals) phase (period intervals)) (polylines 0 ps es));
+        said = refl;
         held = sym (ap (λ (z : Outline). z .held) q);
         same-rule = sym (ap (λ (z : Outline). z .rule) q);
       }
@@ -94,3 +96,29 @@ pub dash-runs : (verbs : List ℕ) (points : List Float) (rule : FillRule) (inte
 dash-runs verbs points rule intervals phase tolerance scratch ends vs fs b o e h =
     subst (λ (z : Outcome). CutIntoRuns (segments verbs points) intervals phase tolerance rule o z) (sym e)
     (answers (segments verbs points) intervals phase tolerance rule scratch ends vs fs o (refusal verbs points intervals (length scratch) (length fs)) (cuts intervals phase tolerance) (sym (ap (λ (z : Outcome). z .reply .cut) e) ∙ h))
+
+-- ---- W2: what is not cut says 0
+
+-- of an outcome
+abbrev SaysNone : Outcome → Type 0
+SaysNone z = z .reply .cut ≡ none → z .reply .held ≡ 0
+
+out-none : (b : Bool) (ss : List Segment) (n k held : ℕ) (rule : FillRule) (vs : List ℕ) (fs : List Float) (s : List Float) (e : List ℕ) → SaysNone (keeping s e (outIf b ss n k held rule vs fs))
+out-none true ss n k held rule vs fs s e h = absurd (Option·none-ne-some _ (sym h))
+out-none false ss n k held rule vs fs s e h = refl
+
+kept-none : (b : Bool) (ps : List Vec2) (es : List ℕ) (ss : List Segment) (held : ℕ) (rule : FillRule) (scratch : List Float) (ends vs : List ℕ) (fs : List Float) → SaysNone (keptIf b ps es ss held rule scratch ends vs fs)
+kept-none true ps es ss held rule scratch ends vs fs h = out-none (outFits ss vs fs) ss (length ps) (length es) held rule vs fs (sets scratch 0 (flat ps)) (sets ends 0 es) h
+kept-none false ps es ss held rule scratch ends vs fs h = refl
+
+answered-none : (n : ℕ) (c : Bool) (z : Outcome) (scratch : List Float) (ends vs : List ℕ) (fs : List Float) → SaysNone z → SaysNone (answered n c z scratch ends vs fs)
+answered-none (suc n) c z scratch ends vs fs f h = refl
+answered-none zero false z scratch ends vs fs f h = refl
+answered-none zero true z scratch ends vs fs f h = f h
+
+-- what `dash_path` answers where it doesn't cut
+pub dash-uncut : (verbs : List ℕ) (points : List Float) (rule : FillRule) (intervals : List Float) (phase tolerance : Float) (scratch : List Float) (ends vs : List ℕ) (fs : List Float)
+    → SaysNone (dashing verbs points rule intervals phase tolerance scratch ends vs fs)
+dash-uncut verbs points rule intervals phase tolerance scratch ends vs fs =
+    answered-none (refusal verbs points intervals (length scratch) (length fs)) (cuts intervals phase tolerance) (cutting verbs points rule intervals phase tolerance scratch ends vs fs) scratch ends vs fs
+    (kept-none (scratchFits (pointsOut tolerance (segments verbs points)) (endsOut tolerance (segments verbs points)) scratch ends) _ _ _ _ rule scratch ends vs fs)

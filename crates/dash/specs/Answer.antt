@@ -13,7 +13,7 @@ pub record Answer : Type 0 where
   pub whole : Bool
   -- W2: how many curves were held back, 0 for Whole and beside a refusal
   pub held : ℕ
-  -- what is cut: how much of the dash buffers and the scratch is filled, how many curves were held back, and the fill rule
+  -- what is cut: how much of the dash buffers and the scratch is filled, the same number of held curves, and the fill rule
   pub cut : Option Outline
 
 abbrev pub refusedBy : ℕ → Answer

@@ -36,6 +36,7 @@ pub record CutIntoRuns (path : List Segment) (intervals : List Float) (phase tol
   pub kept : pointsIn (take (2 * o .scratch) (b .scratch)) ≡ pointsOut tolerance path
   pub ended : take (o .polylines) (b .ends) ≡ endsOut tolerance path
   pub runs : AllRuns (walkOf intervals phase) (polylines 0 (pointsIn (take (2 * o .scratch) (b .scratch))) (take (o .polylines) (b .ends))) segments
-  -- W2: the outline says how many of the path's curves were held back
+  -- W2: the answer says how many of the path's curves were held back, and so does the outline
+  pub said : b .reply .held ≡ heldCurves tolerance path
   pub held : o .held ≡ heldCurves tolerance path
   pub same-rule : o .rule ≡ rule

@@ -202,11 +202,11 @@ flatten vs fs tol out es = replied (flatRefusal vs fs tol out es) tol (segments 
 
 -- ---- a carried count
 
--- past the end: 0, and not held back
+-- where there is no curve: 0 and false
 abbrev pub noCount : SegmentCount
 noCount = record { count = 0; held = false }
 
--- W2: N of a curve and whether it was held back; of what is no curve, 0 and not
+-- W2: N of a curve and whether it was held back; 0 and false of what is no curve
 abbrev pub curveAnswer : Float → Spot → Segment → SegmentCount
 curveAnswer tol w s = record { count = curveCount tol w s; held = isHeld tol w s }
 

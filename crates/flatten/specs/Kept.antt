@@ -36,7 +36,7 @@ before tol pre s = written tol nowhere pre ++ onlyIf (opens (spot nowhere pre) s
 abbrev pub carried : Float → List Segment → Segment → ℕ
 carried tol pre s = places tol (spot nowhere pre) s
 
--- W2: with whether it was held back
+-- W2: the carried count, with whether it was held back
 abbrev pub carriedAnswer : Float → List Segment → Segment → SegmentCount
 carriedAnswer tol pre s = record { count = carried tol pre s; held = isHeld tol (spot nowhere pre) s }
 
@@ -66,7 +66,7 @@ pub record Kept (tol : Float) (ss : List Segment) (t : Flattened) (pts : List Ve
   -- the N that is asked for at a curve's verb is the one that it is written with, and whether it was held back (W2) is said with it
   pub asked : (pre : List Segment) (s : Segment) (post : List Segment) → ss ≡ pre ++ s ∷ post → isCurve s ≡ true →
       countAt tol nowhere ss (length pre) ≡ carriedAnswer tol pre s
-  -- W2: and of all that is laid, just the curves with 1,000² < s were held back
+  -- W2: of all that is laid, just the curves with 1,000² < s were held back
   pub exact : (pre : List Segment) (s : Segment) (post : List Segment) → ss ≡ pre ++ s ∷ post →
       HeldAt tol (spot nowhere pre) s (carriedAnswer tol pre s)
   -- in order: a later one begins no earlier than an earlier one ends

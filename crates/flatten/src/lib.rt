@@ -169,7 +169,7 @@ fn ends_polyline(w: Spot, s: Segment) -> bool
     }
 }
 
-// What is said of no curve.
+// The answer where there is no curve: 0 and false.
 fn no_count() -> SegmentCount
     ensures { λ r. ⌜ r ≡ noCount ⌝ }
 {

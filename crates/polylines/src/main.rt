@@ -223,7 +223,7 @@ fn held_and_refused() -> bool {
     r.counts == 0 && r.held == 0 && r.refused == 3 && ends[0] == 99
 }
 
-// Which curve it is, asked verb by verb; no other is.
+// Which curve is held back, asked verb by verb: the second, and nothing else.
 fn held_at() -> bool {
     let points = TWO_QUADS;
     let start = flatten::carried_count(&[0, 2, 2], &points, TIGHT, 0);
@@ -235,7 +235,8 @@ fn held_at() -> bool {
     counted && !start.held && !past.held && !bad.held && bad.refused == 5
 }
 
-// An infinite s is held back, and a cubic of which either difference alone asks for more, the other a NaN too; −∞ and a NaN are not.
+// Held back: an infinite s, and a cubic of which either difference alone asks for more, even beside one that is a NaN. Not held back: −∞, a NaN, and a
+// cubic whose large difference is the one that is a NaN.
 fn held_curves() -> bool {
     let o = Vec2::zero();
     let one = Vec2::new(1.0, 0.0);

@@ -1,8 +1,7 @@
-// Replays answers of the Rust source. Standard input has a list of cases, made by `compare/vectors` (see there), in words of four bytes, low byte
-// first. A case: how many words follow; tolerance, phase and scale; the number of intervals, the intervals; the number of calls, the calls, seven
-// words each; and then every answer in the order in which `run` asks. A float is its pattern; every NaN is one here, since `from_bits` takes none.
-// The source does not say which curves are held back: the list's maker works these answers out, from the request. The number of each case that
-// differs is written out.
+// Replays answers of the Rust source, and of the list's maker, from the request, where the source does not say which curves are held back. Standard
+// input has a list of cases, made by `compare/vectors` (see there), in words of four bytes, low byte first. A case: how many words follow; tolerance,
+// phase and scale; the number of intervals, the intervals; the number of calls, the calls, seven words each; and then every answer in the order in
+// which `run` asks. A float is its pattern; every NaN is one here, since `from_bits` takes none. The number of each case that differs is written out.
 ghost use Prim.Native.Nat.{_≤_, _<_};
 use builder::Call;
 use builder::CurrentPoint;
