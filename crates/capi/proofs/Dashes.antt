@@ -9,10 +9,10 @@ use Rattle.dash.specs.Dash.{outcome, dashing}
 use Rattle.capi.specs.declared.HzDashed.{HzDashed}
 use Rattle.capi.specs.Dash.{dashedOut, dashOutcome, dashOutcomeOut, hzDashing}
 
-pub dash-out : (r : Answer) (k' : FillRule) (v : List ℕ) (p : List Float) (k : FillRule) (i : List Float) (a t : Float) (s : List Float) (e : List ℕ) (vs : List ℕ) (fs : List Float)
-    {q : HzDashed} {s' : List Float} {e' : List ℕ} {vs' : List ℕ} {fs' : List Float}
-    → q ≡ dashedOut r → outcome r s' e' vs' fs' ≡ dashing v p k' i a t s e vs fs → k' ≡ k
-    → dashOutcome q s' e' vs' fs' ≡ hzDashing v p k i a t s e vs fs
+pub dash-out : (r : Answer) (k' : FillRule) (v : List ℕ) (p : List Float) (k : FillRule) (i : List Float) (a t : Float) (s : List Float) (e m vs : List ℕ) (fs : List Float)
+    {q : HzDashed} {s' : List Float} {e' m' vs' : List ℕ} {fs' : List Float}
+    → q ≡ dashedOut r → outcome r s' e' m' vs' fs' ≡ dashing v p k' i a t s e m vs fs → k' ≡ k
+    → dashOutcome q s' e' m' vs' fs' ≡ hzDashing v p k i a t s e m vs fs
 unfolding hzDashing
-dash-out r k' v p k i a t s e vs fs {s' = s'} {e' = e'} {vs' = vs'} {fs' = fs'} given made ruled =
-    ap (λ q. dashOutcome q s' e' vs' fs') given ∙ (ap dashOutcomeOut made ∙ ap (λ k. hzDashing v p k i a t s e vs fs) ruled)
+dash-out r k' v p k i a t s e m vs fs {s' = s'} {e' = e'} {m' = m'} {vs' = vs'} {fs' = fs'} given made ruled =
+    ap (λ q. dashOutcome q s' e' m' vs' fs') given ∙ (ap dashOutcomeOut made ∙ ap (λ k. hzDashing v p k i a t s e m vs fs) ruled)

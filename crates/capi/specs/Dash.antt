@@ -42,23 +42,24 @@ valuesOut (some o) a = cutOut o
 abbrev pub dashedOut : Answer → HzDashed
 dashedOut a = valuesOut (a .cut) (uncut (cond (a .whole) 0 2) (a .held) (a .number))
 
--- the answer, and what the four lent buffers hold afterwards
+-- the answer, and what the five lent buffers hold afterwards
 pub record HzDashing : Type 0 where
   pub reply : HzDashed
   pub scratch : List Float
   pub ends : List ℕ
+  pub marks : List ℕ
   pub verbs : List ℕ
   pub floats : List Float
 
-abbrev pub dashOutcome : HzDashed → List Float → List ℕ → List ℕ → List Float → HzDashing
-dashOutcome r s e vs fs = record { reply = r; scratch = s; ends = e; verbs = vs; floats = fs }
+abbrev pub dashOutcome : HzDashed → List Float → List ℕ → List ℕ → List ℕ → List Float → HzDashing
+dashOutcome r s e m vs fs = record { reply = r; scratch = s; ends = e; marks = m; verbs = vs; floats = fs }
 
 abbrev pub dashOutcomeOut : Outcome → HzDashing
-dashOutcomeOut o = dashOutcome (dashedOut (o .reply)) (o .scratch) (o .ends) (o .verbs) (o .floats)
+dashOutcomeOut o = dashOutcome (dashedOut (o .reply)) (o .scratch) (o .ends) (o .marks) (o .verbs) (o .floats)
 
-unfoldable pub hzDashing : List ℕ → List Float → FillRule → List Float → Float → Float → List Float → List ℕ → List ℕ → List Float → HzDashing
-hzDashing verbs points rule intervals phase tolerance scratch ends vs fs =
-    dashOutcomeOut (dashing verbs points rule intervals phase tolerance scratch ends vs fs)
+unfoldable pub hzDashing : List ℕ → List Float → FillRule → List Float → Float → Float → List Float → List ℕ → List ℕ → List ℕ → List Float → HzDashing
+hzDashing verbs points rule intervals phase tolerance scratch ends marks vs fs =
+    dashOutcomeOut (dashing verbs points rule intervals phase tolerance scratch ends marks vs fs)
 
 abbrev pub outlineIn : HzDashed → Outline
 outlineIn a = record { verbs = a .verbs; points = a .points; scratch = a .scratch; polylines = a .polylines; held = a .held; rule = ruleIn (a .«fill_rule») }

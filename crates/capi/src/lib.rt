@@ -431,10 +431,12 @@ pub extern "C" fn hz_flatten(
     tolerance: f32,
     out: &mut [f32],
     ends: &mut [usize],
+    marks: &mut [u8],
 ) -> Flattened
-    ensures { λ r. ⌜ flattened r (now (out .exit)) (now (ends .exit)) ≡ flatten (now (verbs .entry)) (now (points .entry)) tolerance (now (out .entry)) (now (ends .entry)) ⌝ }
+    ensures { λ r. ⌜ flattened r (now (out .exit)) (now (ends .exit)) (now (marks .exit))
+        ≡ flatten (now (verbs .entry)) (now (points .entry)) tolerance (now (out .entry)) (now (ends .entry)) (now (marks .entry)) ⌝ }
 {
-    flatten::flatten(verbs, points, tolerance, out, ends)
+    flatten::flatten(verbs, points, tolerance, out, ends, marks)
 }
 
 #[no_mangle]
@@ -631,11 +633,12 @@ pub extern "C" fn hz_dash_path(
     tolerance: f32,
     scratch: &mut [f32],
     ends: &mut [usize],
+    marks: &mut [u8],
     dash_verbs: &mut [u8],
     dash_points: &mut [f32],
 ) -> HzDashed
-    ensures { λ r. ⌜ dashOutcome r (now (scratch .exit)) (now (ends .exit)) (now («dash_verbs» .exit)) (now («dash_points» .exit))
-        ≡ hzDashing (now (verbs .entry)) (now (points .entry)) (ruleIn rule) (now (intervals .entry)) phase tolerance (now (scratch .entry)) (now (ends .entry)) (now («dash_verbs» .entry)) (now («dash_points» .entry)) ⌝ }
+    ensures { λ r. ⌜ dashOutcome r (now (scratch .exit)) (now (ends .exit)) (now (marks .exit)) (now («dash_verbs» .exit)) (now («dash_points» .exit))
+        ≡ hzDashing (now (verbs .entry)) (now (points .entry)) (ruleIn rule) (now (intervals .entry)) phase tolerance (now (scratch .entry)) (now (ends .entry)) (now (marks .entry)) (now («dash_verbs» .entry)) (now («dash_points» .entry)) ⌝ }
 {
     let r = rule_in(rule);
     dashed_out(dash::dash_path(
@@ -647,6 +650,7 @@ pub extern "C" fn hz_dash_path(
         tolerance,
         scratch,
         ends,
+        marks,
         dash_verbs,
         dash_points,
     ))

@@ -22,10 +22,10 @@ builds : Builds
 builds cs bs fs = (good cs bs fs, kept.built cs bs fs)
 
 flattens : Flattens
-flattens cs bs fs tolerance out ends h =
-    let f = flattening cs bs fs tolerance out ends in
-    subst (λ (ss : List Segment). Kept tolerance ss (f .answer) (pointsIn (take (2 * f .answer .points) (f .floats))) (take (f .answer .polylines) (f .ends))) (kept.built cs bs fs)
-    (call-kept (pathVerbs (built cs bs fs)) (pathFloats (built cs bs fs)) tolerance out ends h)
+flattens cs bs fs tolerance out ends marks h =
+    let f = flattening cs bs fs tolerance out ends marks in
+    subst (λ (ss : List Segment). Kept tolerance ss (f .answer) (pointsIn (take (2 * f .answer .points) (f .floats))) (take (f .answer .polylines) (f .ends)) (take (f .answer .polylines) (f .marks))) (kept.built cs bs fs)
+    (call-kept (pathVerbs (built cs bs fs)) (pathFloats (built cs bs fs)) tolerance out ends marks h)
 
 carries : Carries
 unfolding carriedCount
@@ -33,14 +33,14 @@ carries cs bs fs tolerance pre s post e h =
     rw (good cs bs fs, kept.built cs bs fs, e) (ap (carriedBy 0) (asked tolerance pre s post h))
 
 dashes : Dashes
-dashes cs bs fs rule intervals phase tolerance scratch ends verbs points o h =
-    subst (λ (ss : List Segment). CutIntoRuns ss intervals phase tolerance rule o (dashing cs bs fs rule intervals phase tolerance scratch ends verbs points)) (kept.built cs bs fs)
-    (dash-runs (pathVerbs (built cs bs fs)) (pathFloats (built cs bs fs)) rule intervals phase tolerance scratch ends verbs points
-    (dashing cs bs fs rule intervals phase tolerance scratch ends verbs points) o refl h)
+dashes cs bs fs rule intervals phase tolerance scratch ends marks verbs points o h =
+    subst (λ (ss : List Segment). CutIntoRuns ss intervals phase tolerance rule o (dashing cs bs fs rule intervals phase tolerance scratch ends marks verbs points)) (kept.built cs bs fs)
+    (dash-runs (pathVerbs (built cs bs fs)) (pathFloats (built cs bs fs)) rule intervals phase tolerance scratch ends marks verbs points
+    (dashing cs bs fs rule intervals phase tolerance scratch ends marks verbs points) o refl h)
 
 uncut : Uncut
-uncut cs bs fs rule intervals phase tolerance scratch ends verbs points =
-    dash-uncut (pathVerbs (built cs bs fs)) (pathFloats (built cs bs fs)) rule intervals phase tolerance scratch ends verbs points
+uncut cs bs fs rule intervals phase tolerance scratch ends marks verbs points =
+    dash-uncut (pathVerbs (built cs bs fs)) (pathFloats (built cs bs fs)) rule intervals phase tolerance scratch ends marks verbs points
 
 pub demand3 : Demand3
 demand3 = record { builds = builds; flattens = flattens; carries = carries; dashes = dashes; uncut = uncut }

@@ -12,9 +12,10 @@ use Rattle.float.specs.Count.{segmentCount, heldBack}
 use Rattle.vec2.specs.declared.Vec2.{Vec2}
 use Rattle.vec2.specs.Vec2.{vec, anyNan, allFinite}
 use Rattle.path.specs.declared.Segment.{Segment}
-use Rattle.path.specs.declared.Segment.the-variants.{Move, Line}
+use Rattle.path.specs.declared.Segment.the-variants.{Move, Line, Close}
 use Rattle.conic.specs.Conic.{straight}
 use Rattle.curve.specs.Count.{bend, quadCount, cubicCount}
+use Rattle.flatten.specs.Subpaths.{subpathsFrom, withDrawn, marksOut}
 use Rattle.builder.specs.declared.Call.the-variants.{MoveTo, ConicTo}
 use Rattle.builder.specs.Call.{lays}
 use Rattle.builder.specs.Laid.{lay, puts, laidFrom, laid}
@@ -49,6 +50,13 @@ pub record Starred : Type 0 where
   pub held-∞ : heldBack (inf false) ≡ true
   pub held-below : heldBack (inf true) ≡ false
   pub held-nan : heldBack nan ≡ false
+  -- W4, the marks: M L Z L is open, M L Z Z closed, M Z L open; M Z has no polyline; a line back to the start and a close is closed; so is a NaN start
+  pub mark-open : marksOut (Move (at 0 0) ∷ Line (at 1 0) ∷ Close ∷ Line (at 2 0) ∷ []) ≡ 0 ∷ []
+  pub mark-twice : marksOut (Move (at 0 0) ∷ Line (at 1 0) ∷ Close ∷ Close ∷ []) ≡ 1 ∷ []
+  pub mark-early : marksOut (Move (at 0 0) ∷ Close ∷ Line (at 1 0) ∷ []) ≡ 0 ∷ []
+  pub mark-none : marksOut (Move (at 0 0) ∷ Close ∷ []) ≡ []
+  pub mark-back : marksOut (Move (at 0 0) ∷ Line (at 1 0) ∷ Line (at 0 0) ∷ Close ∷ []) ≡ 1 ∷ []
+  pub mark-nan : marksOut (Move (vec nan nan) ∷ Line (at 1 0) ∷ Close ∷ Move (at 0 0) ∷ Line (at 1 0) ∷ []) ≡ 1 ∷ 0 ∷ []
   pub quad-bent : quadCount quarter (at 0 0) (at 8 8) (at 16 0) ≡ 5
   pub quad-straight : quadCount quarter (at 0 0) (at 8 0) (at 16 0) ≡ 1
   pub cubic-bent : cubicCount quarter (at 0 0) (at 0 8) (at 16 8) (at 16 0) ≡ 9
@@ -63,7 +71,7 @@ pub record Starred : Type 0 where
   pub weight-0 : laid (MoveTo (vec nan nan) ∷ ConicTo (at 1 1) (at 2 0) f0 ∷ []) (0 ∷ 0 ∷ []) ≡ Move (vec nan nan) ∷ Line (at 2 0) ∷ []
 
 pub starred : Starred
-unfolding segmentCount heldBack bend anyNan allFinite straight lays lay puts laidFrom walkFrom cutFrom trace traced squareRoot twiceRoot wholeRoot isFinite maximum remEuclid abs isNan add sub mul div rem lt le eq neg sum round size units odd span climb ofInt ofBits ofFields trailingZeros
+unfolding segmentCount heldBack marksOut withDrawn subpathsFrom bend anyNan allFinite straight lays lay puts laidFrom walkFrom cutFrom trace traced squareRoot twiceRoot wholeRoot isFinite maximum remEuclid abs isNan add sub mul div rem lt le eq neg sum round size units odd span climb ofInt ofBits ofFields trailingZeros
 starred =
     record {
       s-1 = refl;
@@ -78,6 +86,12 @@ starred =
       held-∞ = refl;
       held-below = refl;
       held-nan = refl;
+      mark-open = refl;
+      mark-twice = refl;
+      mark-early = refl;
+      mark-none = refl;
+      mark-back = refl;
+      mark-nan = refl;
       quad-bent = refl;
       quad-straight = refl;
       cubic-bent = refl;

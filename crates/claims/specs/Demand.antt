@@ -33,17 +33,18 @@ Builds =
     (badPath (pathVerbs b) (pathFloats b) ≡ 0) × (segments (pathVerbs b) (pathFloats b) ≡ laidBy cs bs fs)
 
 -- what flattening that path answers, and leaves
-abbrev pub flattening : List Call → List ℕ → List Float → Float → List Float → List ℕ → flat.Outcome
-flattening cs bs fs tolerance out ends = flat.flatten (pathVerbs (built cs bs fs)) (pathFloats (built cs bs fs)) tolerance out ends
+abbrev pub flattening : List Call → List ℕ → List Float → Float → List Float → List ℕ → List ℕ → flat.Outcome
+flattening cs bs fs tolerance out ends marks = flat.flatten (pathVerbs (built cs bs fs)) (pathFloats (built cs bs fs)) tolerance out ends marks
 
--- A flattening that isn't refused loses or shifts no end point of the laid list, and its totals, W2's number of held curves among them, are counted on that
--- list.
+-- A flattening that isn't refused loses or shifts no end point of the laid list; its totals, W2's number of held curves among them, are counted on that list;
+-- and it has one polyline, with one mark (W4), for each subpath of that list with a drawn verb.
 abbrev pub Flattens : Type 0
 Flattens =
-    (cs : List Call) (bs : List ℕ) (fs : List Float) (tolerance : Float) (out : List Float) (ends : List ℕ) →
-    let f = flattening cs bs fs tolerance out ends in
+    (cs : List Call) (bs : List ℕ) (fs : List Float) (tolerance : Float) (out : List Float) (ends marks : List ℕ) →
+    let f = flattening cs bs fs tolerance out ends marks in
     f .answer .refused ≡ 0 →
-    Kept tolerance (laidBy cs bs fs) (f .answer) (pointsIn (take (2 * f .answer .points) (f .floats))) (take (f .answer .polylines) (f .ends))
+    Kept tolerance (laidBy cs bs fs) (f .answer) (pointsIn (take (2 * f .answer .points) (f .floats)))
+    (take (f .answer .polylines) (f .ends)) (take (f .answer .polylines) (f .marks))
 
 -- The N that a curve of the laid list is written with, and whether it was held back (W2), are what `carried_count` answers at its verb.
 abbrev pub Carries : Type 0
@@ -53,25 +54,25 @@ Carries =
     flat.carriedCount (pathVerbs (built cs bs fs)) (pathFloats (built cs bs fs)) tolerance (length pre) ≡ flat.carriedBy 0 (carriedAnswer tolerance pre s)
 
 -- what dashing that path answers, and leaves
-abbrev pub dashing : List Call → List ℕ → List Float → FillRule → List Float → Float → Float → List Float → List ℕ → List ℕ → List Float → dash.Outcome
-dashing cs bs fs rule intervals phase tolerance scratch ends verbs points =
-    dash.dashing (pathVerbs (built cs bs fs)) (pathFloats (built cs bs fs)) rule intervals phase tolerance scratch ends verbs points
+abbrev pub dashing : List Call → List ℕ → List Float → FillRule → List Float → Float → Float → List Float → List ℕ → List ℕ → List ℕ → List Float → dash.Outcome
+dashing cs bs fs rule intervals phase tolerance scratch ends marks verbs points =
+    dash.dashing (pathVerbs (built cs bs fs)) (pathFloats (built cs bs fs)) rule intervals phase tolerance scratch ends marks verbs points
 
 -- Where dashing cuts that path, its output is the walk's of every polyline, none left out, and that is runs and nothing else. Its answer says how many curves
--- of the laid list were held back (W2).
+-- of the laid list were held back (W2), and the scratch keeps the polylines' marks (W4).
 abbrev pub Dashes : Type 0
 Dashes =
     (cs : List Call) (bs : List ℕ) (fs : List Float) (rule : FillRule) (intervals : List Float) (phase tolerance : Float)
-    (scratch : List Float) (ends verbs : List ℕ) (points : List Float) (o : Outline) →
-    let d = dashing cs bs fs rule intervals phase tolerance scratch ends verbs points in
+    (scratch : List Float) (ends marks verbs : List ℕ) (points : List Float) (o : Outline) →
+    let d = dashing cs bs fs rule intervals phase tolerance scratch ends marks verbs points in
     d .reply .cut ≡ some o → CutIntoRuns (laidBy cs bs fs) intervals phase tolerance rule o d
 
 -- W2: where it doesn't cut that path, which is drawn whole or refused, its answer says that no curve was held back.
 abbrev pub Uncut : Type 0
 Uncut =
     (cs : List Call) (bs : List ℕ) (fs : List Float) (rule : FillRule) (intervals : List Float) (phase tolerance : Float)
-    (scratch : List Float) (ends verbs : List ℕ) (points : List Float) →
-    let d = dashing cs bs fs rule intervals phase tolerance scratch ends verbs points in
+    (scratch : List Float) (ends marks verbs : List ℕ) (points : List Float) →
+    let d = dashing cs bs fs rule intervals phase tolerance scratch ends marks verbs points in
     d .reply .cut ≡ none → d .reply .held ≡ 0
 
 pub record Demand3 : Type 0 where

@@ -19,6 +19,7 @@ use Rattle.path.specs.declared.FillRule.{FillRule}
 use Rattle.path.specs.Segment.{segments}
 use Rattle.path.specs.Check.{badPath}
 use Rattle.flatten.specs.Flatten.{pointsOut, endsOut, heldCurves}
+use Rattle.flatten.specs.Subpaths.{marksOut}
 use Rattle.pattern.specs.Cycle.{some, usable, cycleOf, sumFrom, cuts}
 use Rattle.walk.specs.declared.Pos.{Pos}
 use Rattle.walk.specs.Phase.{startOf}
@@ -46,47 +47,51 @@ pub by-path : (n k : ℕ) → (n ≡ 0 → ⊥) → n ≡ thenEight n k
 by-path zero k h = absurd (h refl)
 by-path (suc n) k h = refl
 
-module _ (verbs : List ℕ) (points : List Float) (rule : FillRule) (intervals : List Float) (phase tolerance : Float) (scratch : List Float) (ends : List ℕ) (us : List ℕ) (gs : List Float) where
+module _ (verbs : List ℕ) (points : List Float) (rule : FillRule) (intervals : List Float) (phase tolerance : Float) (scratch : List Float) (ends marks us : List ℕ) (gs : List Float) where
   abbrev ps : List Vec2
   ps = pointsOut tolerance (segments verbs points)
 
   abbrev es : List ℕ
   es = endsOut tolerance (segments verbs points)
 
+  abbrev ms : List ℕ
+  ms = marksOut (segments verbs points)
+
   abbrev ss : List Segment
   ss = dashes intervals phase ps es
 
   -- ---- the scratch
 
-  pub scratch-full : scratchFits ps es scratch ends ≡ false → (s' : List Float) (e' : List ℕ) → s' ≡ scratch → e' ≡ ends
-      → outcome (refusedBy 3) s' e' us gs ≡ cutting verbs points rule intervals phase tolerance scratch ends us gs
-  scratch-full h s' e' p q = rw (h, p, q)
+  pub scratch-full : scratchFits ps es ms scratch ends marks ≡ false → (s' : List Float) (e' m' : List ℕ) → s' ≡ scratch → e' ≡ ends → m' ≡ marks
+      → outcome (refusedBy 3) s' e' m' us gs ≡ cutting verbs points rule intervals phase tolerance scratch ends marks us gs
+  scratch-full h s' e' m' p q r = rw (h, p, q, r)
 
-  pub scratch-kept : scratchFits ps es scratch ends ≡ true → (s' : List Float) (e' : List ℕ) → s' ≡ sets scratch 0 (flat ps) → e' ≡ sets ends 0 es
+  pub scratch-kept : scratchFits ps es ms scratch ends marks ≡ true
+      → (s' : List Float) (e' m' : List ℕ) → s' ≡ sets scratch 0 (flat ps) → e' ≡ sets ends 0 es → m' ≡ sets marks 0 ms
       → (l : List Float) (k : List ℕ) → l ≡ flat ps → k ≡ es → (cs : List Float) → cs ≡ cycleOf intervals → (period : Float) → period ≡ sumFrom f0 cs → (start : Pos) → start ≡ startOf cs phase period
       → (held : ℕ) → held ≡ heldCurves tolerance (segments verbs points)
       → (a : Answer) (vs' : List ℕ) (fs' : List Float) → cutOutcome a vs' fs' ≡ outOutcome (walked cs start (pointsIn l) k) (length l / 2) (length k) held rule us gs
-      → outcome a s' e' vs' fs' ≡ cutting verbs points rule intervals phase tolerance scratch ends us gs
-  scratch-kept f s' e' p q l k lp kp cs cp period pp start sp held hp a vs' fs' h =
+      → outcome a s' e' m' vs' fs' ≡ cutting verbs points rule intervals phase tolerance scratch ends marks us gs
+  scratch-kept f s' e' m' p q r l k lp kp cs cp period pp start sp held hp a vs' fs' h =
       let n : length l / 2 ≡ length ps = omega (arith, ap length lp, length-flat ps) in
       let m : pointsIn l ≡ ps = ap pointsIn lp ∙ pointsIn-flat ps in
       let d : walked cs start (pointsIn l) k ≡ ss = rw (m, kp, sp, pp, cp) in
-      rw (f, p, q) (ap (keeping (sets scratch 0 (flat ps)) (sets ends 0 es)) (h ∙ rw (d, n, kp, hp)))
+      rw (f, p, q, r) (ap (keeping (sets scratch 0 (flat ps)) (sets ends 0 es) (sets marks 0 ms)) (h ∙ rw (d, n, kp, hp)))
 
   -- ---- the whole call
 
   abbrev number : ℕ
   number = refusal verbs points intervals (length scratch) (length gs)
 
-  pub is-refused : (n : ℕ) → n ≡ number → (n ≡ 0 → ⊥) → outcome (refusedBy n) scratch ends us gs ≡ dashing verbs points rule intervals phase tolerance scratch ends us gs
+  pub is-refused : (n : ℕ) → n ≡ number → (n ≡ 0 → ⊥) → outcome (refusedBy n) scratch ends marks us gs ≡ dashing verbs points rule intervals phase tolerance scratch ends marks us gs
   is-refused zero h z = absurd (z refl)
   is-refused (suc n) h z = rw (← h)
 
-  pub whole : 0 ≡ number → cuts intervals phase tolerance ≡ false → outcome drawnWhole scratch ends us gs ≡ dashing verbs points rule intervals phase tolerance scratch ends us gs
+  pub whole : 0 ≡ number → cuts intervals phase tolerance ≡ false → outcome drawnWhole scratch ends marks us gs ≡ dashing verbs points rule intervals phase tolerance scratch ends marks us gs
   whole h k = rw (← h, k)
 
   pub is-cut : 0 ≡ number → cuts intervals phase tolerance ≡ true → (o : Outcome)
-      → o ≡ cutting verbs points rule intervals phase tolerance scratch ends us gs → o ≡ dashing verbs points rule intervals phase tolerance scratch ends us gs
+      → o ≡ cutting verbs points rule intervals phase tolerance scratch ends marks us gs → o ≡ dashing verbs points rule intervals phase tolerance scratch ends marks us gs
   is-cut h k o q = rw (← h, k) q
 
   eight : (n k : ℕ) → 0 ≡ thenEight n k → (n ≡ 0) × (k ≤ 64)

@@ -3,7 +3,7 @@
 use mathlib.Core.Path.{_≡_, refl, sym, _∙_, ap, subst}
 use Prim.Native.Nat.{ℕ, zero, suc, _*_, _/_, _≤_}
 use native.Mathlib.Omega.{arith}
-use mathlib.Core.Bool.{Bool, true, false}
+use mathlib.Core.Bool.{Bool, true, false, _&&_}
 use mathlib.Core.List.{List}
 use mathlib.Core.Option.{none, some, Option·none-ne-some, Option·some-injective}
 use lib.ListN.{length, take}
@@ -19,7 +19,9 @@ use Rattle.path.specs.declared.FillRule.{FillRule}
 use Rattle.path.specs.Segment.{segments, bytesOf, allPoints}
 use Rattle.path.proofs.Encoded.{length-bytes}
 use Rattle.flatten.specs.Flatten.{pointsOut, endsOut, heldCurves}
+use Rattle.flatten.specs.Subpaths.{marksOut}
 use Rattle.flatten.specs.Polylines.{polylines}
+use Rattle.flatten.proofs.Polylines.{marks-ends}
 use Rattle.pattern.specs.Cycle.{cycleOf, period, cuts}
 use Rattle.walk.specs.Phase.{startOf}
 use Rattle.walk.proofs.Runs.{all-runs}
@@ -29,12 +31,15 @@ use Rattle.dash.specs.Runs.{CutIntoRuns}
 use Rattle.dash.proofs.Caps.{both, fits}
 use Rattle.dash.proofs.Scratch.{front}
 
-module _ (path : List Segment) (intervals : List Float) (phase tolerance : Float) (rule : FillRule) (scratch : List Float) (ends vs : List ℕ) (fs : List Float) (o : Outline) where
+module _ (path : List Segment) (intervals : List Float) (phase tolerance : Float) (rule : FillRule) (scratch : List Float) (ends marks vs : List ℕ) (fs : List Float) (o : Outline) where
   abbrev ps : List Vec2
   ps = pointsOut tolerance path
 
   abbrev es : List ℕ
   es = endsOut tolerance path
+
+  abbrev ms : List ℕ
+  ms = marksOut path
 
   abbrev ss : List Segment
   ss = dashes intervals phase ps es
@@ -44,11 +49,12 @@ module _ (path : List Segment) (intervals : List Float) (phase tolerance : Float
 
   -- what is left once the scratch takes the polylines, by whether the dash buffers take the dashes
   abbrev left : Bool → Outcome
-  left b = keeping (sets scratch 0 (flat ps)) (sets ends 0 es) (outIf b ss (length ps) (length es) held rule vs fs)
+  left b = keeping (sets scratch 0 (flat ps)) (sets ends 0 es) (sets marks 0 ms) (outIf b ss (length ps) (length es) held rule vs fs)
 
-  laid : scratchFits ps es scratch ends ≡ true → outFits ss vs fs ≡ true → outlineFor ss (length ps) (length es) held rule ≡ o → CutIntoRuns path intervals phase tolerance rule o (left true)
+  laid : scratchFits ps es ms scratch ends marks ≡ true → outFits ss vs fs ≡ true → outlineFor ss (length ps) (length es) held rule ≡ o → CutIntoRuns path intervals phase tolerance rule o (left true)
   laid f g q =
-      let a = both (leb (length ps) (length scratch / 2)) (leb (length es) (length ends)) f in
+      let a = both (leb (length ps) (length scratch / 2)) (leb (length es) (length ends) && leb (length ms) (length marks)) f in
+      let d = both (leb (length es) (length ends)) (leb (length ms) (length marks)) (a .1) in
       let y : length ps ≤ length scratch / 2 = leb-true _ _ (a .0) in
       let b = fits (length ss) (length (allPoints ss)) (length vs) (length fs) g in
       let np : o .scratch ≡ length ps = sym (ap (λ (z : Outline). z .scratch) q) in
@@ -56,13 +62,15 @@ module _ (path : List Segment) (intervals : List Float) (phase tolerance : Float
       let nv : o .verbs ≡ length ss = sym (ap (λ (z : Outline). z .verbs) q) in
       let kept : pointsIn (take (2 * o .scratch) (sets scratch 0 (flat ps))) ≡ ps =
       ap pointsIn (front scratch (flat ps) (2 * o .scratch) (omega (arith, np, length-flat ps)) (omega (arith, y, length-flat ps))) ∙ pointsIn-flat ps in
-      let ended : take (o .polylines) (sets ends 0 es) ≡ es = front ends es (o .polylines) (sym (ap (λ (z : Outline). z .polylines) q)) (leb-true _ _ (a .1)) in
+      let nk : o .polylines ≡ length es = sym (ap (λ (z : Outline). z .polylines) q) in
+      let ended : take (o .polylines) (sets ends 0 es) ≡ es = front ends es (o .polylines) nk (leb-true _ _ (d .0)) in
       record {
         segments = ss;
         verbs = front vs (bytesOf ss) (o .verbs) (omega (arith, nv, length-bytes ss)) (omega (arith, b .verb, length-bytes ss));
         points = front fs (flat (allPoints ss)) (2 * o .points) (omega (arith, no, length-flat (allPoints ss))) (omega (arith, b .point, length-flat (allPoints ss)));
         kept = kept;
         ended = ended;
+        marked = front marks ms (o .polylines) (nk ∙ sym (marks-ends tolerance path)) (leb-true _ _ (d .1));
         runs = rw (kept, ended) (all-runs (cycleOf intervals) (startOf (cycleOf intervals) phase (period intervals)) (polylines 0 ps es));
         said = refl;
         held = sym (ap (λ (z : Outline). z .held) q);
@@ -77,25 +85,25 @@ module _ (path : List Segment) (intervals : List Float) (phase tolerance : Float
   abbrev Cuts : Outcome → Type 0
   Cuts z = z .reply .cut ≡ some o → CutIntoRuns path intervals phase tolerance rule o z
 
-  out : (b : Bool) → scratchFits ps es scratch ends ≡ true → outFits ss vs fs ≡ b → Cuts (left b)
+  out : (b : Bool) → scratchFits ps es ms scratch ends marks ≡ true → outFits ss vs fs ≡ b → Cuts (left b)
   out true f g h = laid f g (Option·some-injective _ o h)
   out false f g h = not-cut h
 
-  kept : (b : Bool) → scratchFits ps es scratch ends ≡ b → Cuts (keptIf b ps es ss held rule scratch ends vs fs)
+  kept : (b : Bool) → scratchFits ps es ms scratch ends marks ≡ b → Cuts (keptIf b ps es ms ss held rule scratch ends marks vs fs)
   kept true f h = out (outFits ss vs fs) f refl h
   kept false f h = not-cut h
 
-  answers : (n : ℕ) (c : Bool) → Cuts (answered n c (keptIf (scratchFits ps es scratch ends) ps es ss held rule scratch ends vs fs) scratch ends vs fs)
+  answers : (n : ℕ) (c : Bool) → Cuts (answered n c (keptIf (scratchFits ps es ms scratch ends marks) ps es ms ss held rule scratch ends marks vs fs) scratch ends marks vs fs)
   answers (suc n) c h = not-cut h
   answers zero false h = not-cut h
-  answers zero true h = kept (scratchFits ps es scratch ends) refl h
+  answers zero true h = kept (scratchFits ps es ms scratch ends marks) refl h
 
 -- what `dash_path` ensures of its outcome b
-pub dash-runs : (verbs : List ℕ) (points : List Float) (rule : FillRule) (intervals : List Float) (phase tolerance : Float) (scratch : List Float) (ends vs : List ℕ) (fs : List Float) (b : Outcome) (o : Outline)
-    → b ≡ dashing verbs points rule intervals phase tolerance scratch ends vs fs → b .reply .cut ≡ some o → CutIntoRuns (segments verbs points) intervals phase tolerance rule o b
-dash-runs verbs points rule intervals phase tolerance scratch ends vs fs b o e h =
+pub dash-runs : (verbs : List ℕ) (points : List Float) (rule : FillRule) (intervals : List Float) (phase tolerance : Float) (scratch : List Float) (ends marks vs : List ℕ) (fs : List Float) (b : Outcome) (o : Outline)
+    → b ≡ dashing verbs points rule intervals phase tolerance scratch ends marks vs fs → b .reply .cut ≡ some o → CutIntoRuns (segments verbs points) intervals phase tolerance rule o b
+dash-runs verbs points rule intervals phase tolerance scratch ends marks vs fs b o e h =
     subst (λ (z : Outcome). CutIntoRuns (segments verbs points) intervals phase tolerance rule o z) (sym e)
-    (answers (segments verbs points) intervals phase tolerance rule scratch ends vs fs o (refusal verbs points intervals (length scratch) (length fs)) (cuts intervals phase tolerance) (sym (ap (λ (z : Outcome). z .reply .cut) e) ∙ h))
+    (answers (segments verbs points) intervals phase tolerance rule scratch ends marks vs fs o (refusal verbs points intervals (length scratch) (length fs)) (cuts intervals phase tolerance) (sym (ap (λ (z : Outcome). z .reply .cut) e) ∙ h))
 
 -- ---- W2: what is not cut says 0
 
@@ -103,22 +111,22 @@ dash-runs verbs points rule intervals phase tolerance scratch ends vs fs b o e h
 abbrev SaysNone : Outcome → Type 0
 SaysNone z = z .reply .cut ≡ none → z .reply .held ≡ 0
 
-out-none : (b : Bool) (ss : List Segment) (n k held : ℕ) (rule : FillRule) (vs : List ℕ) (fs : List Float) (s : List Float) (e : List ℕ) → SaysNone (keeping s e (outIf b ss n k held rule vs fs))
-out-none true ss n k held rule vs fs s e h = absurd (Option·none-ne-some _ (sym h))
-out-none false ss n k held rule vs fs s e h = refl
+out-none : (b : Bool) (ss : List Segment) (n k held : ℕ) (rule : FillRule) (vs : List ℕ) (fs : List Float) (s : List Float) (e m : List ℕ) → SaysNone (keeping s e m (outIf b ss n k held rule vs fs))
+out-none true ss n k held rule vs fs s e m h = absurd (Option·none-ne-some _ (sym h))
+out-none false ss n k held rule vs fs s e m h = refl
 
-kept-none : (b : Bool) (ps : List Vec2) (es : List ℕ) (ss : List Segment) (held : ℕ) (rule : FillRule) (scratch : List Float) (ends vs : List ℕ) (fs : List Float) → SaysNone (keptIf b ps es ss held rule scratch ends vs fs)
-kept-none true ps es ss held rule scratch ends vs fs h = out-none (outFits ss vs fs) ss (length ps) (length es) held rule vs fs (sets scratch 0 (flat ps)) (sets ends 0 es) h
-kept-none false ps es ss held rule scratch ends vs fs h = refl
+kept-none : (b : Bool) (ps : List Vec2) (es ms : List ℕ) (ss : List Segment) (held : ℕ) (rule : FillRule) (scratch : List Float) (ends marks vs : List ℕ) (fs : List Float) → SaysNone (keptIf b ps es ms ss held rule scratch ends marks vs fs)
+kept-none true ps es ms ss held rule scratch ends marks vs fs h = out-none (outFits ss vs fs) ss (length ps) (length es) held rule vs fs (sets scratch 0 (flat ps)) (sets ends 0 es) (sets marks 0 ms) h
+kept-none false ps es ms ss held rule scratch ends marks vs fs h = refl
 
-answered-none : (n : ℕ) (c : Bool) (z : Outcome) (scratch : List Float) (ends vs : List ℕ) (fs : List Float) → SaysNone z → SaysNone (answered n c z scratch ends vs fs)
-answered-none (suc n) c z scratch ends vs fs f h = refl
-answered-none zero false z scratch ends vs fs f h = refl
-answered-none zero true z scratch ends vs fs f h = f h
+answered-none : (n : ℕ) (c : Bool) (z : Outcome) (scratch : List Float) (ends marks vs : List ℕ) (fs : List Float) → SaysNone z → SaysNone (answered n c z scratch ends marks vs fs)
+answered-none (suc n) c z scratch ends marks vs fs f h = refl
+answered-none zero false z scratch ends marks vs fs f h = refl
+answered-none zero true z scratch ends marks vs fs f h = f h
 
 -- what `dash_path` answers where it doesn't cut
-pub dash-uncut : (verbs : List ℕ) (points : List Float) (rule : FillRule) (intervals : List Float) (phase tolerance : Float) (scratch : List Float) (ends vs : List ℕ) (fs : List Float)
-    → SaysNone (dashing verbs points rule intervals phase tolerance scratch ends vs fs)
-dash-uncut verbs points rule intervals phase tolerance scratch ends vs fs =
-    answered-none (refusal verbs points intervals (length scratch) (length fs)) (cuts intervals phase tolerance) (cutting verbs points rule intervals phase tolerance scratch ends vs fs) scratch ends vs fs
-    (kept-none (scratchFits (pointsOut tolerance (segments verbs points)) (endsOut tolerance (segments verbs points)) scratch ends) _ _ _ _ rule scratch ends vs fs)
+pub dash-uncut : (verbs : List ℕ) (points : List Float) (rule : FillRule) (intervals : List Float) (phase tolerance : Float) (scratch : List Float) (ends marks vs : List ℕ) (fs : List Float)
+    → SaysNone (dashing verbs points rule intervals phase tolerance scratch ends marks vs fs)
+dash-uncut verbs points rule intervals phase tolerance scratch ends marks vs fs =
+    answered-none (refusal verbs points intervals (length scratch) (length fs)) (cuts intervals phase tolerance) (cutting verbs points rule intervals phase tolerance scratch ends marks vs fs) scratch ends marks vs fs
+    (kept-none (scratchFits (pointsOut tolerance (segments verbs points)) (endsOut tolerance (segments verbs points)) (marksOut (segments verbs points)) scratch ends marks) _ _ _ _ _ rule scratch ends marks vs fs)

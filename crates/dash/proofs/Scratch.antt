@@ -1,11 +1,11 @@
 -- What flattening leaves in the scratch, and that its ends are in order. Assumes nothing.
 use mathlib.Core.Path.{_≡_, refl, sym, _∙_, ap}
-use Prim.Native.Nat.{ℕ, _+_, _*_, _/_, _%_, _≤_}
+use Prim.Native.Nat.{ℕ, _*_, _/_, _%_, _≤_}
 use native.Mathlib.Omega.{arith}
 use native.Mathlib.Nat.{zero-add}
 use mathlib.Core.Bool.{Bool, true, false, cond, not, _&&_, _||_}
-use mathlib.Core.List.{List, [], _∷_, _++_}
-use lib.ListN.{length, take, length-append}
+use mathlib.Core.List.{List, [], _∷_}
+use lib.ListN.{length, take}
 use lib.Seq.{sets, length-sets}
 use lib.Dec.{leb, ltb}
 use lib.Ieee.{Float}
@@ -15,9 +15,11 @@ use Rattle.vec2.specs.Points.{flat}
 use Rattle.path.specs.declared.Segment.{Segment}
 use Rattle.path.specs.Segment.{segments}
 use Rattle.path.specs.Check.{badPath}
-use Rattle.flatten.specs.declared.Spot.{Spot}
 use Rattle.flatten.specs.declared.Flattened.{Flattened}
-use Rattle.flatten.specs.Flatten.{nowhere, after, stops, onlyIf, writes, written, endings, pointsOut, endsOut, heldCurves, flatRefusal, replied, flatten, Outcome, outcome}
+use Rattle.flatten.specs.Flatten.{pointsOut, endsOut, heldCurves, flatRefusal, replied, flatten, Outcome, outcome}
+use Rattle.flatten.specs.Polylines.{Rising}
+use Rattle.flatten.specs.Subpaths.{marksOut}
+use Rattle.flatten.proofs.Polylines.{ends-rise}
 use Rattle.pattern.proofs.Cycles.{take-stored}
 use Rattle.vec2.proofs.Points.{length-flat}
 use Rattle.dash.proofs.Caps.{both}
@@ -26,26 +28,16 @@ use Rattle.dash.specs.Dash.{scratchFits}
 
 -- ---- the ends
 
-module _ (most : ℕ) where
-  -- one end, or none, before the others
-  end-if : (b : Bool) (n from : ℕ) (es : List ℕ) → from ≤ n → 2 * n ≤ most → Ordered most from es → Ordered most n es → Ordered most from (onlyIf b n ++ es)
-  end-if true n from es h l o q = (h, l, q)
-  end-if false n from es h l o q = o
+rising-last : (n last : ℕ) (es : List ℕ) → Rising n es last → n ≤ last
+rising-last n last [] h = omega (arith, h)
+rising-last n last (e ∷ es) h = omega (arith, h .0, rising-last e last es (h .1))
 
-  end-last : (b : Bool) (n from : ℕ) → from ≤ n → 2 * n ≤ most → Ordered most from (onlyIf b n)
-  end-last true n from h l = (h, l, tt)
-  end-last false n from h l = tt
-
-  ends-from : (tol : Float) (ss : List Segment) (n from : ℕ) (w : Spot) → from ≤ n → 2 * (n + length (written tol w ss)) ≤ most → Ordered most from (endings tol n w ss)
-  unfolding endings written
-  ends-from tol [] n from w h l = end-last (w .drawn) n from h (omega (arith, l))
-  ends-from tol (s ∷ ss) n from w h l =
-      let k = n + length (writes tol w s) in
-      let m : 2 * (k + length (written tol (after w s) ss)) ≤ most = omega (arith, l, length-append (writes tol w s) (written tol (after w s) ss)) in
-      end-if (stops w s) n from (endings tol k (after w s) ss) h (omega (arith, l)) (ends-from tol ss k from (after w s) (omega (arith, h)) m) (ends-from tol ss k n (after w s) (omega arith) m)
+rising-ordered : (n last : ℕ) (es : List ℕ) → Rising n es last → Ordered (2 * last) n es
+rising-ordered n last [] h = tt
+rising-ordered n last (e ∷ es) h = (omega (arith, h .0), omega (arith, rising-last e last es (h .1)), rising-ordered e last es (h .1))
 
 pub ends-ordered : (tol : Float) (ss : List Segment) → Ordered (2 * length (pointsOut tol ss)) 0 (endsOut tol ss)
-ends-ordered tol ss = ends-from (2 * length (pointsOut tol ss)) tol ss 0 0 nowhere (omega arith) (omega arith)
+ends-ordered tol ss = rising-ordered 0 (length (pointsOut tol ss)) (endsOut tol ss) (ends-rise tol ss)
 
 -- ---- the flattening's answer, where nothing is refused before it
 
@@ -60,12 +52,13 @@ over-under a b = go (leb b a) refl
     go true e = le-ltb a b (leb-true b a e)
     go false e = lt-ltb a b (leb-false b a e)
 
-or-and : (a b : Bool) (x y : ℕ) → cond (not a || not b) x y ≡ cond (a && b) y x
-or-and true true x y = refl
-or-and true false x y = refl
-or-and false b x y = refl
+or-and : (a b d : Bool) (x y : ℕ) → cond (not a || (not b || not d)) x y ≡ cond (a && (b && d)) y x
+or-and true true true x y = refl
+or-and true true false x y = refl
+or-and true false d x y = refl
+or-and false b d x y = refl
 
-module _ (vs : List ℕ) (fs : List Float) (tol : Float) (scratch : List Float) (ends : List ℕ) (even : length scratch % 2 ≡ 0) (good : badPath vs fs ≡ 0) where
+module _ (vs : List ℕ) (fs : List Float) (tol : Float) (scratch : List Float) (ends marks : List ℕ) (even : length scratch % 2 ≡ 0) (good : badPath vs fs ≡ 0) where
   abbrev path : List Segment
   path = segments vs fs
 
@@ -75,48 +68,70 @@ module _ (vs : List ℕ) (fs : List Float) (tol : Float) (scratch : List Float) 
   abbrev es : List ℕ
   es = endsOut tol path
 
-  number : flatRefusal vs fs tol scratch ends ≡ cond (scratchFits ps es scratch ends) 0 3
-  unfolding flatRefusal
-  number = rw (ne-eqb (length scratch % 2) 1 (λ e. omega (arith, e, even)), good, over-under (length scratch / 2) (length ps), over-under (length ends) (length es))
-      (or-and (leb (length ps) (length scratch / 2)) (leb (length es) (length ends)) 3 0)
+  abbrev ms : List ℕ
+  ms = marksOut path
 
-  reply : (o : Outcome) → o ≡ flatten vs fs tol scratch ends → o ≡ replied (cond (scratchFits ps es scratch ends) 0 3) tol path scratch ends
+  abbrev takes : Bool
+  takes = scratchFits ps es ms scratch ends marks
+
+  number : flatRefusal vs fs tol scratch ends marks ≡ cond takes 0 3
+  unfolding flatRefusal
+  number =
+      rw (
+        ne-eqb (length scratch % 2) 1 (λ e. omega (arith, e, even)),
+        good,
+        over-under (length scratch / 2) (length ps),
+        over-under (length ends) (length es),
+        over-under (length marks) (length ms),
+      )
+      (or-and (leb (length ps) (length scratch / 2)) (leb (length es) (length ends)) (leb (length ms) (length marks)) 3 0)
+
+  reply : (o : Outcome) → o ≡ flatten vs fs tol scratch ends marks → o ≡ replied (cond takes 0 3) tol path scratch ends marks
   unfolding flatten
-  reply o e = e ∙ ap (λ (n : ℕ). replied n tol path scratch ends) number
+  reply o e = e ∙ ap (λ (n : ℕ). replied n tol path scratch ends marks) number
 
   -- the scratch is too small, and is as it was
-  pub record Full (s' : List Float) (e' : List ℕ) : Type 0 where
-    pub misfit : scratchFits ps es scratch ends ≡ false
+  pub record Full (s' : List Float) (e' m' : List ℕ) : Type 0 where
+    pub misfit : takes ≡ false
     pub scratch-is : s' ≡ scratch
     pub ends-are : e' ≡ ends
+    pub marks-are : m' ≡ marks
 
   -- or it keeps the polylines
-  pub record Kept (r : Flattened) (s' : List Float) (e' : List ℕ) : Type 0 where
-    pub fit : scratchFits ps es scratch ends ≡ true
+  pub record Kept (r : Flattened) (s' : List Float) (e' m' : List ℕ) : Type 0 where
+    pub fit : takes ≡ true
     pub scratch-is : s' ≡ sets scratch 0 (flat ps)
     pub ends-are : e' ≡ sets ends 0 es
+    pub marks-are : m' ≡ sets marks 0 ms
     pub room : 2 * r .points ≤ length s'
     pub rooms : r .polylines ≤ length e'
     pub points : take (2 * r .points) s' ≡ flat ps
     pub polylines : take (r .polylines) e' ≡ es
     pub held : r .held ≡ heldCurves tol path
 
-  module _ (r : Flattened) (s' : List Float) (e' : List ℕ) (e : outcome r s' e' ≡ flatten vs fs tol scratch ends) where
-    pub full : (r .refused ≡ 0 → ⊥) → Full s' e'
-    full h = go (scratchFits ps es scratch ends) refl (reply _ e)
+  module _ (r : Flattened) (s' : List Float) (e' m' : List ℕ) (e : outcome r s' e' m' ≡ flatten vs fs tol scratch ends marks) where
+    pub full : (r .refused ≡ 0 → ⊥) → Full s' e' m'
+    full h = go takes refl (reply _ e)
       where
-        go : (b : Bool) → scratchFits ps es scratch ends ≡ b → outcome r s' e' ≡ replied (cond b 0 3) tol path scratch ends → Full s' e'
+        go : (b : Bool) → takes ≡ b → outcome r s' e' m' ≡ replied (cond b 0 3) tol path scratch ends marks → Full s' e' m'
         go true q z = absurd (h (ap (λ (o : Outcome). o .answer .refused) z))
-        go false q z = record { misfit = q; scratch-is = ap (λ (o : Outcome). o .floats) z; ends-are = ap (λ (o : Outcome). o .ends) z }
+        go false q z =
+            record {
+              misfit = q;
+              scratch-is = ap (λ (o : Outcome). o .floats) z;
+              ends-are = ap (λ (o : Outcome). o .ends) z;
+              marks-are = ap (λ (o : Outcome). o .marks) z;
+            }
 
-    pub kept : r .refused ≡ 0 → Kept r s' e'
-    kept h = go (scratchFits ps es scratch ends) refl (reply _ e)
+    pub kept : r .refused ≡ 0 → Kept r s' e' m'
+    kept h = go takes refl (reply _ e)
       where
-        go : (b : Bool) → scratchFits ps es scratch ends ≡ b → outcome r s' e' ≡ replied (cond b 0 3) tol path scratch ends → Kept r s' e'
+        go : (b : Bool) → takes ≡ b → outcome r s' e' m' ≡ replied (cond b 0 3) tol path scratch ends marks → Kept r s' e' m'
         go true q z =
-            let f = both (leb (length ps) (length scratch / 2)) (leb (length es) (length ends)) q in
+            let f = both (leb (length ps) (length scratch / 2)) (leb (length es) (length ends) && leb (length ms) (length marks)) q in
+            let g = both (leb (length es) (length ends)) (leb (length ms) (length marks)) (f .1) in
             let l : 2 * length ps ≤ length scratch = omega (arith, leb-true (length ps) (length scratch / 2) (f .0)) in
-            let k : length es ≤ length ends = leb-true (length es) (length ends) (f .1) in
+            let k : length es ≤ length ends = leb-true (length es) (length ends) (g .0) in
             let n : r .points ≡ length ps = ap (λ (o : Outcome). o .answer .points) z in
             let m : r .polylines ≡ length es = ap (λ (o : Outcome). o .answer .polylines) z in
             let s : s' ≡ sets scratch 0 (flat ps) = ap (λ (o : Outcome). o .floats) z in
@@ -125,6 +140,7 @@ module _ (vs : List ℕ) (fs : List Float) (tol : Float) (scratch : List Float) 
               fit = q;
               scratch-is = s;
               ends-are = t;
+              marks-are = ap (λ (o : Outcome). o .marks) z;
               room = omega (arith, l, n, ap length s, length-sets scratch 0 (flat ps));
               rooms = omega (arith, k, m, ap length t, length-sets ends 0 es);
               points = ap (take (2 * r .points)) s ∙ front scratch (flat ps) (2 * r .points) (omega (arith, n, length-flat ps)) (omega (arith, l, length-flat ps));

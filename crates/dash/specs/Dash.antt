@@ -1,4 +1,4 @@
--- What `dash_path` answers, and what the four lent buffers then hold, as one outcome (`dash_path`, dash.rs; "Dash" and "Numbers" of the scope). Definitions only.
+-- What `dash_path` answers, and what the five lent buffers then hold, as one outcome (`dash_path`, dash.rs; "Dash" and "Numbers" of the scope). Definitions only.
 use mathlib.Core.Path.{_≡_}
 use Prim.Native.Nat.{ℕ, zero, suc, _/_, _%_}
 use mathlib.Core.Bool.{Bool, true, false, cond, _&&_}
@@ -14,6 +14,7 @@ use Rattle.path.specs.declared.FillRule.{FillRule}
 use Rattle.path.specs.Segment.{bytesOf, allPoints, segments}
 use Rattle.path.specs.Check.{badPath, maxVerbs, maxPoints}
 use Rattle.flatten.specs.Flatten.{pointsOut, endsOut, heldCurves}
+use Rattle.flatten.specs.Subpaths.{marksOut}
 use Rattle.flatten.specs.Polylines.{polylines}
 use Rattle.pattern.specs.Cycle.{cycleOf, period, cuts}
 use Rattle.walk.specs.declared.Pos.{Pos}
@@ -47,9 +48,9 @@ walked cycle start ps es = walkAll cycle start (polylines 0 ps es)
 abbrev pub dashes : List Float → Float → List Vec2 → List ℕ → List Segment
 dashes intervals phase ps es = let cycle = cycleOf intervals in walked cycle (startOf cycle phase (period intervals)) ps es
 
--- 3: the scratch takes the points and the ends
-abbrev pub scratchFits : List Vec2 → List ℕ → List Float → List ℕ → Bool
-scratchFits ps es scratch ends = leb (length ps) (length scratch / 2) && leb (length es) (length ends)
+-- 3: the scratch takes the points, the ends and the marks (W4)
+abbrev pub scratchFits : List Vec2 → List ℕ → List ℕ → List Float → List ℕ → List ℕ → Bool
+scratchFits ps es ms scratch ends marks = leb (length ps) (length scratch / 2) && (leb (length es) (length ends) && leb (length ms) (length marks))
 
 -- 3: so many verbs and points fit dash buffers of so many verbs and floats, up to the path limits
 abbrev pub fitsBoth : ℕ → ℕ → ℕ → ℕ → Bool
@@ -88,42 +89,44 @@ abbrev pub scratchOutcome : List Float → Pos → List Float → List ℕ → �
 scratchOutcome cycle start scratch ends held rule vs fs =
     outOutcome (walked cycle start (pointsIn scratch) ends) (length scratch / 2) (length ends) held rule vs fs
 
--- ---- the reply and all four buffers
+-- ---- the reply and all five buffers
 
 pub record Outcome : Type 0 where
   pub reply : Answer
   pub scratch : List Float
   pub ends : List ℕ
+  pub marks : List ℕ
   pub verbs : List ℕ
   pub floats : List Float
 
-abbrev pub outcome : Answer → List Float → List ℕ → List ℕ → List Float → Outcome
-outcome a s e vs fs = record { reply = a; scratch = s; ends = e; verbs = vs; floats = fs }
+abbrev pub outcome : Answer → List Float → List ℕ → List ℕ → List ℕ → List Float → Outcome
+outcome a s e m vs fs = record { reply = a; scratch = s; ends = e; marks = m; verbs = vs; floats = fs }
 
-abbrev pub keeping : List Float → List ℕ → CutOutcome → Outcome
-keeping s e o = outcome (o .reply) s e (o .verbs) (o .floats)
+abbrev pub keeping : List Float → List ℕ → List ℕ → CutOutcome → Outcome
+keeping s e m o = outcome (o .reply) s e m (o .verbs) (o .floats)
 
--- the scratch keeps the polylines where it takes them, else 3
-abbrev pub keptIf : Bool → List Vec2 → List ℕ → List Segment → ℕ → FillRule → List Float → List ℕ → List ℕ → List Float → Outcome
-keptIf true ps es ss held rule scratch ends vs fs =
-    keeping (sets scratch 0 (flat ps)) (sets ends 0 es) (outOutcome ss (length ps) (length es) held rule vs fs)
-keptIf false ps es ss held rule scratch ends vs fs = outcome (refusedBy 3) scratch ends vs fs
+-- the scratch keeps the polylines, and their marks (W4), where it takes them, else 3
+abbrev pub keptIf : Bool → List Vec2 → List ℕ → List ℕ → List Segment → ℕ → FillRule → List Float → List ℕ → List ℕ → List ℕ → List Float → Outcome
+keptIf true ps es ms ss held rule scratch ends marks vs fs =
+    keeping (sets scratch 0 (flat ps)) (sets ends 0 es) (sets marks 0 ms) (outOutcome ss (length ps) (length es) held rule vs fs)
+keptIf false ps es ms ss held rule scratch ends marks vs fs = outcome (refusedBy 3) scratch ends marks vs fs
 
 -- Cut: the path is flattened into the scratch, and each polyline walked; 3 for the scratch comes before 3 for the dash buffers
-abbrev pub cutting : List ℕ → List Float → FillRule → List Float → Float → Float → List Float → List ℕ → List ℕ → List Float → Outcome
-cutting verbs points rule intervals phase tolerance scratch ends vs fs =
+abbrev pub cutting : List ℕ → List Float → FillRule → List Float → Float → Float → List Float → List ℕ → List ℕ → List ℕ → List Float → Outcome
+cutting verbs points rule intervals phase tolerance scratch ends marks vs fs =
     let path = segments verbs points in
     let ps = pointsOut tolerance path in
     let es = endsOut tolerance path in
-    keptIf (scratchFits ps es scratch ends) ps es (dashes intervals phase ps es) (heldCurves tolerance path) rule scratch ends vs fs
+    let ms = marksOut path in
+    keptIf (scratchFits ps es ms scratch ends marks) ps es ms (dashes intervals phase ps es) (heldCurves tolerance path) rule scratch ends marks vs fs
 
 -- by the refusal's number; then Whole is decided, and touches no buffer
-abbrev pub answered : ℕ → Bool → Outcome → List Float → List ℕ → List ℕ → List Float → Outcome
-answered (suc n) cut o scratch ends vs fs = outcome (refusedBy (suc n)) scratch ends vs fs
-answered zero false o scratch ends vs fs = outcome drawnWhole scratch ends vs fs
-answered zero true o scratch ends vs fs = o
+abbrev pub answered : ℕ → Bool → Outcome → List Float → List ℕ → List ℕ → List ℕ → List Float → Outcome
+answered (suc n) cut o scratch ends marks vs fs = outcome (refusedBy (suc n)) scratch ends marks vs fs
+answered zero false o scratch ends marks vs fs = outcome drawnWhole scratch ends marks vs fs
+answered zero true o scratch ends marks vs fs = o
 
-abbrev pub dashing : List ℕ → List Float → FillRule → List Float → Float → Float → List Float → List ℕ → List ℕ → List Float → Outcome
-dashing verbs points rule intervals phase tolerance scratch ends vs fs =
+abbrev pub dashing : List ℕ → List Float → FillRule → List Float → Float → Float → List Float → List ℕ → List ℕ → List ℕ → List Float → Outcome
+dashing verbs points rule intervals phase tolerance scratch ends marks vs fs =
     answered (refusal verbs points intervals (length scratch) (length fs)) (cuts intervals phase tolerance)
-    (cutting verbs points rule intervals phase tolerance scratch ends vs fs) scratch ends vs fs
+    (cutting verbs points rule intervals phase tolerance scratch ends marks vs fs) scratch ends marks vs fs

@@ -13,6 +13,7 @@ use Rattle.path.specs.declared.Segment.{Segment}
 use Rattle.path.specs.declared.FillRule.{FillRule}
 use Rattle.path.specs.Segment.{bytesOf, allPoints}
 use Rattle.flatten.specs.Flatten.{pointsOut, endsOut, heldCurves}
+use Rattle.flatten.specs.Subpaths.{marksOut}
 use Rattle.flatten.specs.Polylines.{polylines}
 use Rattle.pattern.specs.Cycle.{cycleOf, period}
 use Rattle.walk.specs.Phase.{startOf}
@@ -32,9 +33,10 @@ pub record CutIntoRuns (path : List Segment) (intervals : List Float) (phase tol
   -- the dash buffers' filled parts are the segments' bytes and points
   pub verbs : take (o .verbs) (b .verbs) ≡ bytesOf segments
   pub points : take (2 * o .points) (b .floats) ≡ flat (allPoints segments)
-  -- the scratch keeps the path's polylines
+  -- the scratch keeps the path's polylines, and their marks (W4)
   pub kept : pointsIn (take (2 * o .scratch) (b .scratch)) ≡ pointsOut tolerance path
   pub ended : take (o .polylines) (b .ends) ≡ endsOut tolerance path
+  pub marked : take (o .polylines) (b .marks) ≡ marksOut path
   pub runs : AllRuns (walkOf intervals phase) (polylines 0 (pointsIn (take (2 * o .scratch) (b .scratch))) (take (o .polylines) (b .ends))) segments
   -- W2: the answer says how many of the path's curves were held back, and so does the outline
   pub said : b .reply .held ≡ heldCurves tolerance path

@@ -212,14 +212,15 @@ fn cut(
     tolerance: f32,
     scratch: &mut [f32],
     ends: &mut [usize],
+    marks: &mut [u8],
     vs: &mut [u8],
     fs: &mut [f32],
 ) -> Dashed
     requires { ⌜ (length (now scratch) % 2 ≡ 0) × (badPath (now verbs) (now points) ≡ 0) × (now cycle ≡ cycleOf (now intervals)) × (0 < length (now cycle)) ⌝ }
-    ensures { λ r. ⌜ outcome (answerOf r) (now (scratch .exit)) (now (ends .exit)) (now (vs .exit)) (now (fs .exit))
-        ≡ cutting (now (verbs .entry)) (now (points .entry)) rule (now (intervals .entry)) phase tolerance (now (scratch .entry)) (now (ends .entry)) (now (vs .entry)) (now (fs .entry)) ⌝ }
+    ensures { λ r. ⌜ outcome (answerOf r) (now (scratch .exit)) (now (ends .exit)) (now (marks .exit)) (now (vs .exit)) (now (fs .exit))
+        ≡ cutting (now (verbs .entry)) (now (points .entry)) rule (now (intervals .entry)) phase tolerance (now (scratch .entry)) (now (ends .entry)) (now (marks .entry)) (now (vs .entry)) (now (fs .entry)) ⌝ }
 {
-    let f = flatten::flatten(verbs, points, tolerance, scratch, ends);
+    let f = flatten::flatten(verbs, points, tolerance, scratch, ends, marks);
     if f.refused != 0 {
         return Dashed::Refused(3);
     }
@@ -249,11 +250,12 @@ pub fn dash_path(
     tolerance: f32,
     scratch: &mut [f32],
     ends: &mut [usize],
+    marks: &mut [u8],
     dash_verbs: &mut [u8],
     dash_points: &mut [f32],
 ) -> Dashed
-    ensures { λ r. ⌜ outcome (answerOf r) (now (scratch .exit)) (now (ends .exit)) (now («dash_verbs» .exit)) (now («dash_points» .exit))
-        ≡ dashing (now (verbs .entry)) (now (points .entry)) rule (now (intervals .entry)) phase tolerance (now (scratch .entry)) (now (ends .entry)) (now («dash_verbs» .entry)) (now («dash_points» .entry)) ⌝ }
+    ensures { λ r. ⌜ outcome (answerOf r) (now (scratch .exit)) (now (ends .exit)) (now (marks .exit)) (now («dash_verbs» .exit)) (now («dash_points» .exit))
+        ≡ dashing (now (verbs .entry)) (now (points .entry)) rule (now (intervals .entry)) phase tolerance (now (scratch .entry)) (now (ends .entry)) (now (marks .entry)) (now («dash_verbs» .entry)) (now («dash_points» .entry)) ⌝ }
 {
     let refused = refusal(verbs, points, intervals, scratch.len(), dash_points.len());
     if refused != 0 {
@@ -274,6 +276,7 @@ pub fn dash_path(
             tolerance,
             scratch,
             ends,
+            marks,
             dash_verbs,
             dash_points,
         );

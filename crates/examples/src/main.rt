@@ -86,6 +86,7 @@ fn print_cut(verbs: &[u8], points: &[f32], v: usize, p: usize) {
 fn print_dashed(verbs: &[u8], points: &[f32], intervals: &[f32]) {
     let mut scratch = [0.0f32; 64];
     let mut ends = [0usize; 8];
+    let mut marks = [0u8; 8];
     let mut dash_verbs = [9u8; 64];
     let mut dash_points = [9.0f32; 128];
     let answer = dash::dash_path(
@@ -97,6 +98,7 @@ fn print_dashed(verbs: &[u8], points: &[f32], intervals: &[f32]) {
         0.25,
         &mut scratch,
         &mut ends,
+        &mut marks,
         &mut dash_verbs,
         &mut dash_points,
     );

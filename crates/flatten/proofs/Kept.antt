@@ -1,8 +1,8 @@
 -- Demand 3's flattening half over a list of segments (`kept`), and over the answer and the outputs of a call that is not refused (`call-kept`).
 -- Assumes nothing.
 use mathlib.Core.Path.{_≡_, refl, ap, _∙_}
-use mathlib.Core.Bool.{Bool, true, false, not, cond}
-use mathlib.Core.List.{List}
+use mathlib.Core.Bool.{Bool, true, false, not, _||_, cond}
+use mathlib.Core.List.{List, map}
 use Prim.Native.Nat.{ℕ, zero, suc, _*_, _/_, _%_, _≤_}
 use native.Mathlib.Omega.{arith}
 use borrow.Author.Tests.{ltb-false, eqb-false}
@@ -20,6 +20,8 @@ use Rattle.curve.proofs.Numbers.{held-for}
 use Rattle.flatten.specs.declared.Spot.{Spot}
 use Rattle.flatten.specs.Flatten.{nowhere, spot, places, isHeld, pointsOut, endsOut, told, flatRefusal, Outcome, replied, flatten}
 use Rattle.flatten.specs.Kept.{HeldAt, Kept}
+use Rattle.flatten.specs.Subpaths.{subpaths, withDrawn, markOf, marksOut}
+use Rattle.flatten.proofs.Polylines.{subpath-polylines, ends-rise, marks-ends}
 use Rattle.flatten.proofs.Lengths.{sum, polylines-are-starts}
 use Rattle.flatten.proofs.Ends.{stands, in-order}
 use Rattle.flatten.proofs.Counts.{asked}
@@ -34,7 +36,11 @@ held-at tol w (Quad c p) = held-for _ _
 held-at tol w (Cubic c d p) = held-for _ _
 held-at tol w Close = refl
 
-pub kept : (tol : Float) (ss : List Segment) → Kept tol ss (told tol ss) (pointsOut tol ss) (endsOut tol ss)
+marks-of : (ss : List Segment) → marksOut ss ≡ map markOf (withDrawn (subpaths ss))
+unfolding marksOut
+marks-of ss = refl
+
+pub kept : (tol : Float) (ss : List Segment) → Kept tol ss (told tol ss) (pointsOut tol ss) (endsOut tol ss) (marksOut ss)
 kept tol ss =
     record {
       stand = λ pre s post e h. rw e (stands tol pre s post h);
@@ -51,6 +57,9 @@ kept tol ss =
       held = refl;
       points = refl;
       polys = refl;
+      each = subpath-polylines tol ss;
+      marks = marks-of ss;
+      rise = ends-rise tol ss;
     }
 
 -- ---- a call that is not refused
@@ -71,19 +80,23 @@ pub record Filled (vs : List ℕ) (fs : List Float) (tol : Float) (r : Outcome) 
   pub answer : r .answer ≡ told tol (segments vs fs)
   pub points : pointsIn (take (2 * r .answer .points) (r .floats)) ≡ pointsOut tol (segments vs fs)
   pub polys : take (r .answer .polylines) (r .ends) ≡ endsOut tol (segments vs fs)
+  pub marks : take (r .answer .polylines) (r .marks) ≡ marksOut (segments vs fs)
 
-module _ (vs : List ℕ) (fs : List Float) (tol : Float) (out : List Float) (es : List ℕ) where
-  room : flatRefusal vs fs tol out es ≡ 0 →
-      (2 * length (pointsOut tol (segments vs fs)) ≤ length out) × (length (endsOut tol (segments vs fs)) ≤ length es)
+module _ (vs : List ℕ) (fs : List Float) (tol : Float) (out : List Float) (es ms : List ℕ) where
+  room : flatRefusal vs fs tol out es ms ≡ 0 →
+      (2 * length (pointsOut tol (segments vs fs)) ≤ length out) × (length (endsOut tol (segments vs fs)) ≤ length es) × (length (marksOut (segments vs fs)) ≤ length ms)
   unfolding flatRefusal
   room h =
-      let r : (ltb (length out / 2) (length (pointsOut tol (segments vs fs))) ≡ false) × (ltb (length es) (length (endsOut tol (segments vs fs))) ≡ false) = first-false _ _ (fits (eqb (length out % 2) 1) _ _ (badPath vs fs) refl h) in (
+      let d = fits (eqb (length out % 2) 1) _ (ltb (length out / 2) (length (pointsOut tol (segments vs fs))) || (ltb (length es) (length (endsOut tol (segments vs fs))) || ltb (length ms) (length (marksOut (segments vs fs))))) (badPath vs fs) refl h in
+      let r = first-false (ltb (length out / 2) (length (pointsOut tol (segments vs fs)))) _ d in
+      let q = first-false (ltb (length es) (length (endsOut tol (segments vs fs)))) (ltb (length ms) (length (marksOut (segments vs fs)))) (r .1) in (
         omega (arith, ltb-false (length out / 2) (length (pointsOut tol (segments vs fs))) (r .0)),
-        ltb-false (length es) (length (endsOut tol (segments vs fs))) (r .1),
+        ltb-false (length es) (length (endsOut tol (segments vs fs))) (q .0),
+        ltb-false (length ms) (length (marksOut (segments vs fs))) (q .1),
       )
 
-  filled-by : (n : ℕ) → flatRefusal vs fs tol out es ≡ n →
-      replied n tol (segments vs fs) out es .answer .refused ≡ 0 → Filled vs fs tol (replied n tol (segments vs fs) out es)
+  filled-by : (n : ℕ) → flatRefusal vs fs tol out es ms ≡ n →
+      replied n tol (segments vs fs) out es ms .answer .refused ≡ 0 → Filled vs fs tol (replied n tol (segments vs fs) out es ms)
   filled-by zero e h =
       let r = room e in
       record {
@@ -94,16 +107,17 @@ module _ (vs : List ℕ) (fs : List Float) (tol : Float) (out : List Float) (es 
             (length-flat (pointsOut tol (segments vs fs))) (r .0))
             ∙ pointsIn-flat (pointsOut tol (segments vs fs));
         polys = take-stored es (endsOut tol (segments vs fs)) (length (endsOut tol (segments vs fs))) refl (r .1);
+        marks = take-stored ms (marksOut (segments vs fs)) (length (endsOut tol (segments vs fs))) (marks-ends tol (segments vs fs)) (omega (arith, r .2, marks-ends tol (segments vs fs)));
       }
   filled-by (suc n) e h = absurd (omega arith)
 
-  pub filled : flatten vs fs tol out es .answer .refused ≡ 0 → Filled vs fs tol (flatten vs fs tol out es)
+  pub filled : flatten vs fs tol out es ms .answer .refused ≡ 0 → Filled vs fs tol (flatten vs fs tol out es ms)
   unfolding flatten
-  filled h = filled-by (flatRefusal vs fs tol out es) refl h
+  filled h = filled-by (flatRefusal vs fs tol out es ms) refl h
 
-  pub call-kept : flatten vs fs tol out es .answer .refused ≡ 0 →
-      let r : Outcome = flatten vs fs tol out es in
-      Kept tol (segments vs fs) (r .answer) (pointsIn (take (2 * r .answer .points) (r .floats))) (take (r .answer .polylines) (r .ends))
+  pub call-kept : flatten vs fs tol out es ms .answer .refused ≡ 0 →
+      let r : Outcome = flatten vs fs tol out es ms in
+      Kept tol (segments vs fs) (r .answer) (pointsIn (take (2 * r .answer .points) (r .floats))) (take (r .answer .polylines) (r .ends)) (take (r .answer .polylines) (r .marks))
   call-kept h =
       let f = filled h in
-      rw (f .points, f .polys, f .answer) (kept tol (segments vs fs))
+      rw (f .points, f .polys, f .marks, f .answer) (kept tol (segments vs fs))

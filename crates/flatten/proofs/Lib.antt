@@ -6,5 +6,7 @@ pub mod Writes
 pub mod Call
 pub mod Counts
 pub mod Ends
+pub mod Subpaths
+pub mod Polylines
 pub mod Kept
 pub mod Source

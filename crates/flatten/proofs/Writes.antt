@@ -13,7 +13,7 @@ use Rattle.vec2.specs.Points.{flat}
 use Rattle.vec2.proofs.Points.{flat-append, length-flat, sets-append}
 use Rattle.path.specs.declared.Segment.{Segment}
 use Rattle.path.specs.declared.Segment.the-variants.{Move, Line, Quad, Cubic, Close}
-use Rattle.path.specs.Segment.{used, segAt, segments}
+use Rattle.path.specs.Segment.{isClose, used, segAt, segments}
 use Rattle.path.specs.Check.{usedBy}
 use Rattle.path.proofs.Steps.{left, next-left, used-turn}
 use Rattle.float.specs.declared.SegmentCount.{SegmentCount}
@@ -22,8 +22,10 @@ use Rattle.curve.specs.Count.{quadS, cubicS, quadCount, cubicCount, evalQuad, e
 use Rattle.curve.proofs.Numbers.{counted}
 use Rattle.flatten.specs.declared.Spot.{Spot}
 use Rattle.flatten.specs.Flatten.{movedTo, drawnTo, closes, closed, after, stops, onlyIf, places, steps, curved, body, writes, written, endings, pointsOut, endsOut}
-use Rattle.flatten.specs.Steps.{begun, quadPoints, cubicPoints, Wrote, Ended}
+use Rattle.flatten.specs.Steps.{begun, quadPoints, cubicPoints, Wrote, marks, Ended}
+use Rattle.flatten.specs.Subpaths.{mark, marksOut}
 use Rattle.flatten.proofs.Points.{length-steps}
+use Rattle.flatten.proofs.Lengths.{length-onlyIf}
 
 -- ---- one after the other
 
@@ -113,20 +115,23 @@ module _ (tol : Float) (w : Spot) (s : Segment) where
 
 -- ---- the writing loop
 
--- With i verbs read, k points used, n points written and m polylines ended, what the rest would still write over the buffers as they are
+-- With i verbs read, k points used, n points written and m polylines ended, `shut` the last verb's, what the rest would still write over the buffers as they are
 -- gives what the whole gives.
-pub record Writing (vs : List ℕ) (fs : List Float) (tol : Float) (out₀ : List Float) (es₀ : List ℕ) (w : Spot) (i k n m : ℕ) (out : List Float) (ends : List ℕ) : Type 0 where
+pub record Writing (vs : List ℕ) (fs : List Float) (tol : Float) (out₀ : List Float) (es₀ ms₀ : List ℕ) (w : Spot) (i k n m : ℕ) (shut : Bool) (out : List Float) (ends flags : List ℕ) : Type 0 where
   pub here : i ≤ length vs
   pub reads : 2 * (k + usedBy (drop i vs)) ≤ length fs
   pub same-out : length out ≡ length out₀
   pub same-ends : length ends ≡ length es₀
+  pub same-marks : length flags ≡ length ms₀
   pub room : 2 * (n + length (written tol w (left vs fs i k))) ≤ length out₀
   pub room-ends : m + length (endings tol n w (left vs fs i k)) ≤ length es₀
+  pub room-marks : m + length (endings tol n w (left vs fs i k)) ≤ length ms₀
   pub points : sets out (2 * n) (flat (written tol w (left vs fs i k))) ≡ sets out₀ 0 (flat (pointsOut tol (segments vs fs)))
   pub polys : sets ends m (endings tol n w (left vs fs i k)) ≡ sets es₀ 0 (endsOut tol (segments vs fs))
+  pub marked : sets flags m (marks shut w (left vs fs i k)) ≡ sets ms₀ 0 (marksOut (segments vs fs))
 
-module _ {vs : List ℕ} {fs : List Float} {tol : Float} {out₀ : List Float} {es₀ : List ℕ} {w : Spot} {i k n m : ℕ} {out : List Float} {ends : List ℕ}
-    (g : Writing vs fs tol out₀ es₀ w i k n m out ends) where
+module _ {vs : List ℕ} {fs : List Float} {tol : Float} {out₀ : List Float} {es₀ ms₀ : List ℕ} {w : Spot} {i k n m : ℕ} {shut : Bool} {out : List Float} {ends flags : List ℕ}
+    (g : Writing vs fs tol out₀ es₀ ms₀ w i k n m shut out ends flags) where
   module _ (h : i < length vs) (s : Segment) (es : s ≡ segAt (getD vs i 0) fs k) where
     next-written : written tol w (left vs fs i k) ≡ writes tol w s ++ written tol (after w s) (left vs fs (suc i) (k + used (getD vs i 0)))
     unfolding written
@@ -137,31 +142,44 @@ module _ {vs : List ℕ} {fs : List Float} {tol : Float} {out₀ : List Float} {
     unfolding endings
     next-endings = rw (next-left vs fs i k h, es)
 
+    next-marks : marks shut w (left vs fs i k) ≡ onlyIf (stops w s) (mark shut) ++ marks (isClose s) (after w s) (left vs fs (suc i) (k + used (getD vs i 0)))
+    unfolding marks
+    next-marks = rw (next-left vs fs i k h, es)
+
     pub turn-reads : 2 * (k + used (getD vs i 0)) ≤ length fs
     turn-reads = omega (arith, g .reads, used-turn vs i h)
 
     pub turn-room : 2 * (n + length (writes tol w s)) ≤ length out
     turn-room = omega (arith, g .room, g .same-out, simp length-append at (ap length next-written))
 
-    pub turn-ends : (b : Bool) → b ≡ stops w s → m + length (onlyIf b n) ≤ length ends
-    turn-ends b e = rw e (omega (arith, g .room-ends, g .same-ends, simp length-append at (ap length next-endings)))
+    pub turn-ends : (b : Bool) → b ≡ stops w s → (m + length (onlyIf b n) ≤ length ends) × (m + length (onlyIf b n) ≤ length flags)
+    turn-ends b e = rw e (
+      omega (arith, g .room-ends, g .same-ends, simp length-append at (ap length next-endings)),
+      omega (arith, g .room-marks, g .same-marks, simp length-append at (ap length next-endings)),
+    )
 
-    pub turn : (b : Bool) → b ≡ stops w s → {es' : List ℕ} {m' : ℕ} → Ended ends es' m m' (onlyIf b n) →
+    pub turn : (b : Bool) → b ≡ stops w s → {es' ms' : List ℕ} {m' : ℕ} → Ended ends es' flags ms' m m' b n (mark shut) →
         {out' : List Float} {n' : ℕ} → Wrote out out' n n' (writes tol w s) →
-        (v : Spot) → v ≡ after w s → (u : ℕ) → u ≡ used (getD vs i 0) → Writing vs fs tol out₀ es₀ v (i + 1) (k + u) n' m' out' es'
-    turn b eb {es'} {m'} e {out'} {n'} p v ev u eu =
+        (v : Spot) → v ≡ after w s → (shut' : Bool) → shut' ≡ isClose s → (u : ℕ) → u ≡ used (getD vs i 0) → Writing vs fs tol out₀ es₀ ms₀ v (i + 1) (k + u) n' m' shut' out' es' ms'
+    turn b eb {es'} {ms'} {m'} e {out'} {n'} p v ev shut' ec u eu =
         let f : 2 * n + length (flat (writes tol w s)) ≡ 2 * (n + length (writes tol w s)) = omega (arith, length-flat (writes tol w s)) in
+        let l : m + length (onlyIf (stops w s) (mark shut)) ≡ m + length (onlyIf (stops w s) n) = ap (λ (x : ℕ). m + x) (length-onlyIf (stops w s) (mark shut) ∙ sym (length-onlyIf (stops w s) n)) in
         record {
           here = omega arith;
           reads = omega (arith, g .reads, used-turn vs i h);
           same-out = ap length (p .stored) ∙ simp length-sets (g .same-out);
           same-ends = ap length (e .stored) ∙ simp length-sets (g .same-ends);
+          same-marks = ap length (e .marks) ∙ simp length-sets (g .same-marks);
           room = rw (ev, eu, add-one i) (omega (arith, g .room, p .moved, simp length-append at (ap length next-written)));
           room-ends =
               rw (ev, eu, add-one i, p .moved)
               (omega (arith, g .room-ends, rw eb at (e .moved), simp length-append at (ap length next-endings)));
+          room-marks =
+              rw (ev, eu, add-one i, p .moved)
+              (omega (arith, g .room-marks, rw eb at (e .moved), simp length-append at (ap length next-endings)));
           points = rw (ev, eu, add-one i, p .moved, p .stored, ← f, ← sets-append, ← flat-append, ← next-written) (g .points);
           polys = rw (ev, eu, add-one i, p .moved, e .moved, e .stored, eb, ← sets-append, ← next-endings) (g .polys);
+          marked = rw (ev, ec, eu, add-one i, e .moved, e .marks, eb, ← l, ← sets-append, ← next-marks) (g .marked);
         }
 
   module _ (h : length vs ≤ i) where
@@ -173,11 +191,19 @@ module _ {vs : List ℕ} {fs : List Float} {tol : Float} {out₀ : List Float} {
     unfolding endings
     last-ending = rw (drop-of-length-le vs h)
 
-    pub last-room : m + length (onlyIf (w .drawn) n) ≤ length ends
-    last-room = omega (arith, g .room-ends, g .same-ends, ap length last-ending)
+    last-mark : marks shut w (left vs fs i k) ≡ onlyIf (w .drawn) (mark shut)
+    unfolding marks
+    last-mark = rw (drop-of-length-le vs h)
+
+    pub last-room : (m + length (onlyIf (w .drawn) n) ≤ length ends) × (m + length (onlyIf (w .drawn) n) ≤ length flags)
+    last-room = (omega (arith, g .room-ends, g .same-ends, ap length last-ending), omega (arith, g .room-marks, g .same-marks, ap length last-ending))
 
     pub last-points : out ≡ sets out₀ 0 (flat (pointsOut tol (segments vs fs)))
     last-points = rw none-written at (g .points)
 
-    pub last-ends : {es' : List ℕ} {m' : ℕ} → Ended ends es' m m' (onlyIf (w .drawn) n) → es' ≡ sets es₀ 0 (endsOut tol (segments vs fs))
-    last-ends e = e .stored ∙ rw last-ending at (g .polys)
+    module _ {es' ms' : List ℕ} {m' : ℕ} (e : Ended ends es' flags ms' m m' (w .drawn) n (mark shut)) where
+      pub last-ends : es' ≡ sets es₀ 0 (endsOut tol (segments vs fs))
+      last-ends = e .stored ∙ rw last-ending at (g .polys)
+
+      pub last-marks : ms' ≡ sets ms₀ 0 (marksOut (segments vs fs))
+      last-marks = e .marks ∙ rw last-mark at (g .marked)

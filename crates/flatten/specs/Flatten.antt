@@ -20,6 +20,7 @@ use Rattle.curve.specs.Count.{quadS, cubicS, quadCount, cubicCount, evalQuad, e
 use Rattle.flatten.specs.declared.Spot.{Spot}
 use Rattle.flatten.specs.declared.Flattened.{Flattened}
 use Rattle.flatten.specs.declared.Carried.{Carried}
+use Rattle.flatten.specs.Subpaths.{marksOut}
 
 -- ---- where the flattening stands
 
@@ -172,33 +173,34 @@ told tol ss =
 
 -- ---- the call
 
--- 1 for an output with an odd number of floats comes with the path's own 1; 3 comes last
-unfoldable pub flatRefusal : List ℕ → List Float → Float → List Float → List ℕ → ℕ
-flatRefusal vs fs tol out es =
+-- 1 for an output with an odd number of floats comes with the path's own 1; 3, for the points, the ends or the marks (W4), comes last
+unfoldable pub flatRefusal : List ℕ → List Float → Float → List Float → List ℕ → List ℕ → ℕ
+flatRefusal vs fs tol out es ms =
     let ss = segments vs fs in
     cond (eqb (length out % 2) 1) 1
     (cond (not (eqb (badPath vs fs) 0)) (badPath vs fs)
-    (cond (ltb (length out / 2) (length (pointsOut tol ss)) || ltb (length es) (length (endsOut tol ss))) 3 0))
+    (cond (ltb (length out / 2) (length (pointsOut tol ss)) || (ltb (length es) (length (endsOut tol ss)) || ltb (length ms) (length (marksOut ss)))) 3 0))
 
--- the entire reply and the two lent outputs
+-- the entire reply and the three lent outputs
 pub record Outcome : Type 0 where
   pub answer : Flattened
   pub floats : List Float
   pub ends : List ℕ
+  pub marks : List ℕ
 
-abbrev pub outcome : Flattened → List Float → List ℕ → Outcome
-outcome a fs es = record { answer = a; floats = fs; ends = es }
+abbrev pub outcome : Flattened → List Float → List ℕ → List ℕ → Outcome
+outcome a fs es ms = record { answer = a; floats = fs; ends = es; marks = ms }
 
 abbrev pub refusedBy : ℕ → Flattened
 refusedBy n = record { points = 0; polylines = 0; starts = 0; lines = 0; counts = 0; closings = 0; held = 0; refused = n }
 
 -- by the refusal's number
-abbrev pub replied : ℕ → Float → List Segment → List Float → List ℕ → Outcome
-replied zero tol ss out es = outcome (told tol ss) (sets out 0 (flat (pointsOut tol ss))) (sets es 0 (endsOut tol ss))
-replied (suc n) tol ss out es = outcome (refusedBy (suc n)) out es
+abbrev pub replied : ℕ → Float → List Segment → List Float → List ℕ → List ℕ → Outcome
+replied zero tol ss out es ms = outcome (told tol ss) (sets out 0 (flat (pointsOut tol ss))) (sets es 0 (endsOut tol ss)) (sets ms 0 (marksOut ss))
+replied (suc n) tol ss out es ms = outcome (refusedBy (suc n)) out es ms
 
-unfoldable pub flatten : List ℕ → List Float → Float → List Float → List ℕ → Outcome
-flatten vs fs tol out es = replied (flatRefusal vs fs tol out es) tol (segments vs fs) out es
+unfoldable pub flatten : List ℕ → List Float → Float → List Float → List ℕ → List ℕ → Outcome
+flatten vs fs tol out es ms = replied (flatRefusal vs fs tol out es ms) tol (segments vs fs) out es ms
 
 -- ---- a carried count
 

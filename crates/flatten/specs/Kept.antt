@@ -1,8 +1,8 @@
--- Demand 3's flattening half over a list of segments: where the end of each line and curve stands, and the totals. Definitions only.
+-- Demand 3's flattening half over a list of segments: where the end of each line and curve stands, the totals, and each polyline's mark (W4). Definitions only.
 use mathlib.Core.Path.{_≡_}
 use Prim.Native.Nat.{ℕ, suc, _+_, _≤_, _<_}
 use mathlib.Core.Bool.{true, false}
-use mathlib.Core.List.{List, _∷_, _++_}
+use mathlib.Core.List.{List, _∷_, _++_, map}
 use lib.ListN.{length, getD, take}
 use lib.Ieee.{Float}
 use Rattle.vec2.specs.declared.Vec2.{Vec2}
@@ -15,7 +15,10 @@ use Rattle.float.specs.Count.{Counted, HeldFor}
 use Rattle.curve.specs.Count.{quadS, cubicS}
 use Rattle.flatten.specs.declared.Spot.{Spot}
 use Rattle.flatten.specs.declared.Flattened.{Flattened}
+use Rattle.flatten.specs.Subpaths.{subpaths, withDrawn, markOf}
 use Rattle.flatten.specs.Flatten.{nowhere, spot, places, opens, onlyIf, written, pointsOut, endsOut, keptStarts, lines, counts, addedClosings, isHeld, heldCurves, countAt}
+use Rattle.flatten.specs.Polylines as poly
+use Rattle.flatten.specs.Polylines.{Rising}
 
 -- ---- N
 
@@ -60,7 +63,7 @@ pub record Stands (tol : Float) (pre : List Segment) (s : Segment) (pts : List V
 
 -- ---- the whole list
 
-pub record Kept (tol : Float) (ss : List Segment) (t : Flattened) (pts : List Vec2) (ends : List ℕ) : Type 0 where
+pub record Kept (tol : Float) (ss : List Segment) (t : Flattened) (pts : List Vec2) (ends ms : List ℕ) : Type 0 where
   -- every line and curve stands
   pub stand : (pre : List Segment) (s : Segment) (post : List Segment) → ss ≡ pre ++ s ∷ post → isDrawn s ≡ true → Stands tol pre s pts
   -- the N that is asked for at a curve's verb is the one that it is written with, and whether it was held back (W2) is said with it
@@ -85,3 +88,8 @@ pub record Kept (tol : Float) (ss : List Segment) (t : Flattened) (pts : List Ve
   -- points and polylines are those of Flatten, nothing else
   pub points : pts ≡ pointsOut tol ss
   pub polys : ends ≡ endsOut tol ss
+  -- W4: one polyline for each subpath with a drawn verb, its flattening, and no other; one mark for each, by that subpath's last verb
+  pub each : poly.polylines 0 pts ends ≡ map (pointsOut tol) (withDrawn (subpaths ss))
+  pub marks : ms ≡ map markOf (withDrawn (subpaths ss))
+  -- and the ends rise strictly, from above 0 to the number of points
+  pub rise : Rising 0 ends (length pts)

@@ -1,3 +1,4 @@
+pub mod Subpaths
 pub mod Flatten
 pub mod Polylines
 pub mod Kept

@@ -1,8 +1,9 @@
 -- Polylines: points end to end with the number where each ends, and the source's own list of lists. Definitions only.
-use Prim.Native.Nat.{ℕ, _-_}
+use mathlib.Core.Path.{_≡_}
+use Prim.Native.Nat.{ℕ, _+_, _-_, _<_}
 use mathlib.Core.Bool.{not, _&&_}
 use mathlib.Core.List.{List, [], _∷_, _++_}
-use lib.ListN.{take, drop}
+use lib.ListN.{length, take, drop}
 use lib.Ieee.{Float}
 use Rattle.vec2.specs.declared.Vec2.{Vec2}
 use Rattle.vec2.specs.Vec2.{origin, sameAs}
@@ -15,6 +16,20 @@ use Rattle.flatten.specs.Flatten.{curved, onlyIf}
 abbrev pub polylines : ℕ → List Vec2 → List ℕ → List (List Vec2)
 polylines n ps [] = []
 polylines n ps (e ∷ es) = take (e - n) ps ∷ polylines e (drop (e - n) ps) es
+
+-- lists one behind the other, and where each ends, n standing before
+abbrev pub endToEnd : {A : Type 0} → List (List A) → List A
+endToEnd [] = []
+endToEnd (l ∷ ls) = l ++ endToEnd ls
+
+abbrev pub endsOf : {A : Type 0} → ℕ → List (List A) → List ℕ
+endsOf n [] = []
+endsOf n (l ∷ ls) = (n + length l) ∷ endsOf (n + length l) ls
+
+-- ends that rise strictly, from above n to `last`
+abbrev pub Rising : ℕ → List ℕ → ℕ → Type 0
+Rising n [] last = n ≡ last
+Rising n (e ∷ es) last = (n < e) × Rising e es last
 
 -- ---- the source's loop, by its `current`, `pen` and `subpath_start`
 

@@ -1,4 +1,4 @@
--- What the inner functions promise: the measuring pass, and points and ends stored one behind the other. Definitions only.
+-- What the inner functions promise: the measuring pass, and points, ends and marks stored one behind the other. Definitions only.
 use mathlib.Core.Path.{_≡_}
 use Prim.Native.Nat.{ℕ, _+_, _*_, _≤_}
 use mathlib.Core.Bool.{Bool, not}
@@ -9,12 +9,13 @@ use lib.Ieee.{Float}
 use Rattle.vec2.specs.declared.Vec2.{Vec2}
 use Rattle.vec2.specs.Points.{flat}
 use Rattle.path.specs.declared.Segment.{Segment}
-use Rattle.path.specs.Segment.{isLine}
+use Rattle.path.specs.Segment.{isLine, isClose}
 use Rattle.curve.specs.Count.{quadCount, cubicCount, evalQuad, evalCubic}
 use Rattle.flatten.specs.declared.Spot.{Spot}
 use Rattle.flatten.specs.declared.Tally.{Tally}
 use Rattle.flatten.specs.declared.Gauge.{Gauge}
-use Rattle.flatten.specs.Flatten.{drawnTo, closes, closed, after, one, opens, adds, onlyIf, curved, curveCount, isHeld}
+use Rattle.flatten.specs.Subpaths.{mark}
+use Rattle.flatten.specs.Flatten.{drawnTo, closes, closed, after, stops, one, opens, adds, onlyIf, curved, curveCount, isHeld}
 
 -- ---- the measuring pass
 
@@ -94,7 +95,13 @@ pub record Wrote (before left : List Float) (at next : ℕ) (ps : List Vec2) : T
   pub stored : left ≡ sets before (2 * at) (flat ps)
   pub moved : next ≡ at + length ps
 
--- ends stored from place `at` on, and the place behind them
-pub record Ended (before left : List ℕ) (at next : ℕ) (es : List ℕ) : Type 0 where
-  pub stored : left ≡ sets before at es
-  pub moved : next ≡ at + length es
+-- the marks (W4), read in one pass: `shut` says whether the verb read last is a close
+unfoldable pub marks : Bool → Spot → List Segment → List ℕ
+marks shut w [] = onlyIf (w .drawn) (mark shut)
+marks shut w (s ∷ ss) = onlyIf (stops w s) (mark shut) ++ marks (isClose s) (after w s) ss
+
+-- an end and its mark stored at place `at`, if one is wanted, and the place behind them
+pub record Ended (before left marked noted : List ℕ) (at next : ℕ) (wanted : Bool) (n m : ℕ) : Type 0 where
+  pub stored : left ≡ sets before at (onlyIf wanted n)
+  pub marks : noted ≡ sets marked at (onlyIf wanted m)
+  pub moved : next ≡ at + length (onlyIf wanted n)

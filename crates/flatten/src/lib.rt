@@ -1,13 +1,14 @@
-// Flattening: a path's polylines as points, end to end, and the number where each ends. Measured first, written after.
+// Flattening: a path's polylines as points, end to end, the number where each ends, and its mark: whether it is closed (W4). Measured first, written after.
 ghost use mathlib.Core.Path.{_≡_};
 ghost use mathlib.Core.List.{_∷_, []};
 ghost use Prim.Native.Nat.{_+_, _*_, _≤_};
 ghost use lib.ListN.{length};
 ghost use lib.Seq.{sets};
 ghost use Rattle.vec2.specs.Points.{flat};
-ghost use Rattle.path.specs.Segment.{segments};
+ghost use Rattle.path.specs.Segment.{isClose, segments};
 ghost use Rattle.path.specs.Check.{usedBy};
 ghost use Rattle.curve.specs.Count.{evalQuad, evalCubic};
+ghost use Rattle.flatten.specs.Subpaths.{mark, marksOut};
 ghost use Rattle.flatten.specs.Flatten.{nowhere, closes, movedTo, drawnTo, closed, after, stops, one, onlyIf, curveAnswer, curved, writes, pointsOut, endsOut, outcome, refusedBy, flatten, noCount, countAt, carriedCount};
 ghost use Rattle.flatten.specs.Steps.{none, drawnMore, closedMore, gauged, measured, Small, begun, quadPoints, cubicPoints, Wrote, Ended};
 use float::SegmentCount;
@@ -433,38 +434,77 @@ fn write_segment(out: &mut [f32], at: usize, tolerance: f32, w: Spot, s: Segment
     }
 }
 
-// Notes that a polyline ends at n points, if one does, and says where the next note goes.
-fn end_if(ends: &mut [usize], m: usize, wanted: bool, n: usize) -> usize
-    requires { ⌜ m + length (onlyIf wanted n) ≤ length (now ends) ⌝ }
-    ensures { λ r. ⌜ Ended (now (ends .entry)) (now (ends .exit)) m r (onlyIf wanted n) ⌝ }
+fn is_close(s: Segment) -> bool
+    ensures { λ r. ⌜ r ≡ isClose s ⌝ }
+{
+    match s {
+        Segment::Move(_) => false,
+        Segment::Line(_) => false,
+        Segment::Quad(_, _) => false,
+        Segment::Cubic(_, _, _) => false,
+        Segment::Close => true,
+    }
+}
+
+// The byte of a polyline whose last verb is a close, or isn't.
+fn mark(shut: bool) -> u8
+    ensures { λ r. ⌜ r ≡ mark shut ⌝ }
+{
+    if shut { 1 } else { 0 }
+}
+
+// Notes that a polyline ends at n points, with its mark, if one does, and says where the next note goes.
+fn end_if(
+    ends: &mut [usize],
+    marks: &mut [u8],
+    m: usize,
+    wanted: bool,
+    n: usize,
+    shut: bool,
+) -> usize
+    requires { ⌜ (m + length (onlyIf wanted n) ≤ length (now ends)) × (m + length (onlyIf wanted n) ≤ length (now marks)) ⌝ }
+    ensures { λ r. ⌜ Ended (now (ends .entry)) (now (ends .exit)) (now (marks .entry)) (now (marks .exit)) m r wanted n (mark shut) ⌝ }
 {
     if wanted {
         ends[m] = n;
+        marks[m] = mark(shut);
         return m + 1;
     }
     m
 }
 
 // Writes a whole path.
-fn write_path(verbs: &[u8], points: &[f32], tolerance: f32, out: &mut [f32], ends: &mut [usize])
-    requires { ⌜ (2 * usedBy (now verbs) ≤ length (now points)) × (2 * length (pointsOut tolerance (segments (now verbs) (now points))) ≤ length (now out)) × (length (endsOut tolerance (segments (now verbs) (now points))) ≤ length (now ends)) ⌝ }
-    ensures { λ r. ⌜ (now (out .exit) ≡ sets (now (out .entry)) 0 (flat (pointsOut tolerance (segments (now (verbs .entry)) (now (points .entry)))))) × (now (ends .exit) ≡ sets (now (ends .entry)) 0 (endsOut tolerance (segments (now (verbs .entry)) (now (points .entry))))) ⌝ }
+fn write_path(
+    verbs: &[u8],
+    points: &[f32],
+    tolerance: f32,
+    out: &mut [f32],
+    ends: &mut [usize],
+    marks: &mut [u8],
+)
+    requires { ⌜ (2 * usedBy (now verbs) ≤ length (now points)) × (2 * length (pointsOut tolerance (segments (now verbs) (now points))) ≤ length (now out))
+        × (length (endsOut tolerance (segments (now verbs) (now points))) ≤ length (now ends)) × (length (endsOut tolerance (segments (now verbs) (now points))) ≤ length (now marks)) ⌝ }
+    ensures { λ r. ⌜ (now (out .exit) ≡ sets (now (out .entry)) 0 (flat (pointsOut tolerance (segments (now (verbs .entry)) (now (points .entry))))))
+        × (now (ends .exit) ≡ sets (now (ends .entry)) 0 (endsOut tolerance (segments (now (verbs .entry)) (now (points .entry)))))
+        × (now (marks .exit) ≡ sets (now (marks .entry)) 0 (marksOut (segments (now (verbs .entry)) (now (points .entry))))) ⌝ }
 {
     let mut w = start_of_path();
     let mut c = Cursor { verb: 0, point: 0 };
     let mut at: usize = 0;
     let mut m: usize = 0;
+    let mut shut = false;
     loop {
         let step = path::next(verbs, points, c);
         let Step::Next(s, d) = step else {
-            end_if(ends, m, w.drawn, at);
+            end_if(ends, marks, m, w.drawn, at, shut);
             return;
         };
         let stopped = ends_polyline(w, s);
-        m = end_if(ends, m, stopped, at);
+        m = end_if(ends, marks, m, stopped, at, shut);
         let r = write_segment(out, at, tolerance, w, s);
         at = r.at;
         w = r.spot;
+        shut = is_close(s);
         c = d;
     }
 }
@@ -486,15 +526,18 @@ fn refusal(n: u8) -> Flattened
     }
 }
 
-// Flattens a path into points, end to end, and the number of points at which each polyline ends.
+// Flattens a path into points, end to end, the number of points at which each polyline ends, and its mark: 1 if the last verb of its subpath is a close,
+// even where no closing point was added, else 0.
 pub fn flatten(
     verbs: &[u8],
     points: &[f32],
     tolerance: f32,
     out: &mut [f32],
     ends: &mut [usize],
+    marks: &mut [u8],
 ) -> Flattened
-    ensures { λ r. ⌜ outcome r (now (out .exit)) (now (ends .exit)) ≡ flatten (now (verbs .entry)) (now (points .entry)) tolerance (now (out .entry)) (now (ends .entry)) ⌝ }
+    ensures { λ r. ⌜ outcome r (now (out .exit)) (now (ends .exit)) (now (marks .exit))
+        ≡ flatten (now (verbs .entry)) (now (points .entry)) tolerance (now (out .entry)) (now (ends .entry)) (now (marks .entry)) ⌝ }
 {
     if out.len() % 2 == 1 {
         return refusal(1);
@@ -511,7 +554,10 @@ pub fn flatten(
     if ends.len() < t.starts {
         return refusal(3);
     }
-    write_path(verbs, points, tolerance, out, ends);
+    if marks.len() < t.starts {
+        return refusal(3);
+    }
+    write_path(verbs, points, tolerance, out, ends, marks);
     Flattened {
         points: n,
         polylines: t.starts,

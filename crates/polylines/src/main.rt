@@ -55,12 +55,14 @@ fn quad_of_five() -> bool {
     let points: [f32; 6] = [0.0, 0.0, 8.0, 8.0, 16.0, 0.0];
     let mut out = [7.0f32; 16];
     let mut ends = [99usize; 2];
+    let mut marks = [9u8; 2];
     let r = flatten::flatten(
         &[0, 2, 4],
         &points,
         curve::DEFAULT_TOLERANCE,
         &mut out,
         &mut ends,
+        &mut marks,
     );
     let want: [f32; 16] = [
         0.0,
@@ -87,7 +89,8 @@ fn cubic_of_nine() -> bool {
     let points: [f32; 8] = [0.0, 0.0, 0.0, 8.0, 16.0, 8.0, 16.0, 0.0];
     let mut out = [7.0f32; 20];
     let mut ends = [99usize; 1];
-    let r = flatten::flatten(&[0, 3], &points, 0.25, &mut out, &mut ends);
+    let mut marks = [9u8; 1];
+    let r = flatten::flatten(&[0, 3], &points, 0.25, &mut out, &mut ends, &mut marks);
     let want: [f32; 20] = [
         0.0,
         0.0,
@@ -186,7 +189,8 @@ fn held_back() -> bool {
     let points = TWO_QUADS;
     let mut out = [7.0f32; 4002];
     let mut ends = [99usize; 1];
-    let r = flatten::flatten(&[0, 2, 2], &points, TIGHT, &mut out, &mut ends);
+    let mut marks = [9u8; 1];
+    let r = flatten::flatten(&[0, 2, 2], &points, TIGHT, &mut out, &mut ends, &mut marks);
     r.counts == 2000 && r.held == 1 && r.refused == 0 && ends[0] == 2001
 }
 
@@ -210,7 +214,15 @@ fn two_held_back() -> bool {
     ];
     let mut out = [7.0f32; 4006];
     let mut ends = [99usize; 2];
-    let r = flatten::flatten(&[0, 2, 0, 2, 1], &points, TIGHT, &mut out, &mut ends);
+    let mut marks = [9u8; 2];
+    let r = flatten::flatten(
+        &[0, 2, 0, 2, 1],
+        &points,
+        TIGHT,
+        &mut out,
+        &mut ends,
+        &mut marks,
+    );
     r.counts == 2000 && r.held == 2 && r.refused == 0 && ends[0] == 1001 && ends[1] == 2003
 }
 
@@ -219,7 +231,8 @@ fn held_and_refused() -> bool {
     let points = TWO_QUADS;
     let mut out = [7.0f32; 4000];
     let mut ends = [99usize; 1];
-    let r = flatten::flatten(&[0, 2, 2], &points, TIGHT, &mut out, &mut ends);
+    let mut marks = [9u8; 1];
+    let r = flatten::flatten(&[0, 2, 2], &points, TIGHT, &mut out, &mut ends, &mut marks);
     r.counts == 0 && r.held == 0 && r.refused == 3 && ends[0] == 99
 }
 
@@ -273,18 +286,39 @@ fn closed_by_value() -> bool {
     let points: [f32; 8] = [0.0, 0.0, 4.0, 0.0, -0.0, 0.0, 1.0, 1.0];
     let mut out = [7.0f32; 12];
     let mut ends = [99usize; 2];
-    let r = flatten::flatten(&[0, 1, 1, 4, 1, 4], &points, 0.25, &mut out, &mut ends);
+    let mut marks = [9u8; 2];
+    let r = flatten::flatten(
+        &[0, 1, 1, 4, 1, 4],
+        &points,
+        0.25,
+        &mut out,
+        &mut ends,
+        &mut marks,
+    );
     let want: [f32; 12] = [0.0, 0.0, 4.0, 0.0, -0.0, 0.0, 1.0, 1.0, 0.0, 0.0, 7.0, 7.0];
-    totals(r, 1, 1, 3, 0, 1) && equal(&out, &want) && 1.0 / out[4] < 0.0 && ends[0] == 5
+    totals(r, 1, 1, 3, 0, 1)
+        && equal(&out, &want)
+        && 1.0 / out[4] < 0.0
+        && ends[0] == 5
+        && marks[0] == 1
+        && marks[1] == 9
 }
 
 fn closed_twice() -> bool {
     let points: [f32; 6] = [1.0, 1.0, 4.0, 1.0, 2.0, 5.0];
     let mut out = [7.0f32; 12];
     let mut ends = [99usize; 2];
-    let r = flatten::flatten(&[0, 1, 4, 4, 1, 4], &points, 0.25, &mut out, &mut ends);
+    let mut marks = [9u8; 2];
+    let r = flatten::flatten(
+        &[0, 1, 4, 4, 1, 4],
+        &points,
+        0.25,
+        &mut out,
+        &mut ends,
+        &mut marks,
+    );
     let want: [f32; 12] = [1.0, 1.0, 4.0, 1.0, 1.0, 1.0, 2.0, 5.0, 1.0, 1.0, 7.0, 7.0];
-    totals(r, 1, 1, 2, 0, 2) && equal(&out, &want) && ends[0] == 5
+    totals(r, 1, 1, 2, 0, 2) && equal(&out, &want) && ends[0] == 5 && marks[0] == 1
 }
 
 // A NaN start equals nothing, so nothing closes it; a curve drawn from it is one line.
@@ -292,9 +326,17 @@ fn nan_start() -> bool {
     let points: [f32; 8] = [0.0 / 0.0, 1.0, 4.0, 1.0, 1.0, 1.0, 2.0, 2.0];
     let mut out = [7.0f32; 8];
     let mut ends = [99usize; 2];
-    let r = flatten::flatten(&[0, 1, 4, 2, 4], &points, 0.25, &mut out, &mut ends);
+    let mut marks = [9u8; 2];
+    let r = flatten::flatten(
+        &[0, 1, 4, 2, 4],
+        &points,
+        0.25,
+        &mut out,
+        &mut ends,
+        &mut marks,
+    );
     let want: [f32; 8] = [0.0 / 0.0, 1.0, 4.0, 1.0, 2.0, 2.0, 7.0, 7.0];
-    totals(r, 1, 1, 1, 1, 0) && equal(&out, &want) && ends[0] == 3
+    totals(r, 1, 1, 1, 1, 0) && equal(&out, &want) && ends[0] == 3 && marks[0] == 1
 }
 
 // A curve after a close starts at the move's point and goes on in the same polyline.
@@ -302,7 +344,15 @@ fn curve_after_close() -> bool {
     let points: [f32; 8] = [0.0, 0.0, 16.0, 0.0, 8.0, 8.0, 16.0, 0.0];
     let mut out = [7.0f32; 18];
     let mut ends = [99usize; 1];
-    let r = flatten::flatten(&[0, 1, 4, 2, 4], &points, 0.25, &mut out, &mut ends);
+    let mut marks = [9u8; 1];
+    let r = flatten::flatten(
+        &[0, 1, 4, 2, 4],
+        &points,
+        0.25,
+        &mut out,
+        &mut ends,
+        &mut marks,
+    );
     let want: [f32; 18] = [
         0.0,
         0.0,
@@ -323,7 +373,7 @@ fn curve_after_close() -> bool {
         0.0,
         0.0,
     ];
-    totals(r, 1, 1, 1, 5, 2) && equal(&out, &want) && ends[0] == 9
+    totals(r, 1, 1, 1, 5, 2) && equal(&out, &want) && ends[0] == 9 && marks[0] == 1
 }
 
 // ---- subpaths
@@ -333,16 +383,33 @@ fn empty_subpaths() -> bool {
     let points: [f32; 10] = [1.0, 1.0, 2.0, 2.0, 3.0, 3.0, 4.0, 4.0, 5.0, 5.0];
     let mut out = [7.0f32; 6];
     let mut ends = [99usize; 2];
-    let r = flatten::flatten(&[0, 4, 0, 0, 1, 0], &points, 0.25, &mut out, &mut ends);
+    let mut marks = [9u8; 2];
+    let r = flatten::flatten(
+        &[0, 4, 0, 0, 1, 0],
+        &points,
+        0.25,
+        &mut out,
+        &mut ends,
+        &mut marks,
+    );
     let want: [f32; 6] = [3.0, 3.0, 4.0, 4.0, 7.0, 7.0];
-    totals(r, 1, 1, 1, 0, 0) && r.points == 2 && equal(&out, &want) && ends[0] == 2 && ends[1] == 99
+    let lone = ends[0] == 2 && ends[1] == 99 && marks[0] == 0 && marks[1] == 9;
+    totals(r, 1, 1, 1, 0, 0) && r.points == 2 && equal(&out, &want) && lone
 }
 
 fn two_polylines() -> bool {
     let points: [f32; 10] = [0.0, 0.0, 4.0, 0.0, 4.0, 4.0, 9.0, 9.0, 8.0, 8.0];
     let mut out = [7.0f32; 14];
     let mut ends = [99usize; 3];
-    let r = flatten::flatten(&[0, 1, 1, 4, 0, 1], &points, 0.25, &mut out, &mut ends);
+    let mut marks = [9u8; 3];
+    let r = flatten::flatten(
+        &[0, 1, 1, 4, 0, 1],
+        &points,
+        0.25,
+        &mut out,
+        &mut ends,
+        &mut marks,
+    );
     let want: [f32; 14] = [
         0.0,
         0.0,
@@ -359,7 +426,14 @@ fn two_polylines() -> bool {
         7.0,
         7.0,
     ];
-    totals(r, 2, 2, 3, 0, 1) && equal(&out, &want) && ends[0] == 4 && ends[1] == 6 && ends[2] == 99
+    totals(r, 2, 2, 3, 0, 1)
+        && equal(&out, &want)
+        && ends[0] == 4
+        && ends[1] == 6
+        && ends[2] == 99
+        && marks[0] == 1
+        && marks[1] == 0
+        && marks[2] == 9
 }
 
 fn nothing() -> bool {
@@ -367,30 +441,85 @@ fn nothing() -> bool {
     let points: [f32; 0] = [];
     let mut out = [7.0f32; 2];
     let mut ends = [99usize; 1];
-    let r = flatten::flatten(&verbs, &points, 0.25, &mut out, &mut ends);
-    totals(r, 0, 0, 0, 0, 0) && r.points == 0 && out[0] == 7.0 && ends[0] == 99
+    let mut marks = [9u8; 1];
+    let r = flatten::flatten(&verbs, &points, 0.25, &mut out, &mut ends, &mut marks);
+    totals(r, 0, 0, 0, 0, 0) && r.points == 0 && out[0] == 7.0 && ends[0] == 99 && marks[0] == 9
+}
+
+// ---- marks
+
+// Whether a path flattens with so many added closings and these marks; 9 stands where no mark is written.
+fn marked(verbs: &[u8], points: &[f32], closings: usize, a: u8, b: u8, c: u8) -> bool {
+    let mut out = [7.0f32; 24];
+    let mut ends = [99usize; 3];
+    let mut marks = [9u8; 3];
+    let r = flatten::flatten(verbs, points, 0.25, &mut out, &mut ends, &mut marks);
+    r.refused == 0 && r.closings == closings && marks[0] == a && marks[1] == b && marks[2] == c
+}
+
+// By the subpath's last verb, whatever closings were added before it.
+fn marks_by_last_verb() -> bool {
+    let points: [f32; 6] = [0.0, 0.0, 4.0, 0.0, 4.0, 4.0];
+    let open = marked(&[0, 1, 1], &points, 0, 0, 9, 9);
+    let shut = marked(&[0, 1, 1, 4], &points, 1, 1, 9, 9);
+    let drawn_on = marked(&[0, 1, 4, 1], &points, 1, 0, 9, 9);
+    let twice = marked(&[0, 1, 4, 4], &points[0..4], 1, 1, 9, 9);
+    let early = marked(&[0, 4, 1], &points[0..4], 0, 0, 9, 9);
+    open && shut && drawn_on && twice && early
+}
+
+// A close that adds no point is a close: back at the start already, or from a NaN start.
+fn marks_without_a_point() -> bool {
+    let back: [f32; 6] = [0.0, 0.0, 4.0, 0.0, 0.0, 0.0];
+    let nan: [f32; 4] = [0.0 / 0.0, 0.0, 4.0, 0.0];
+    marked(&[0, 1, 1, 4], &back, 0, 1, 9, 9) && marked(&[0, 1, 4], &nan, 0, 1, 9, 9)
+}
+
+// One for each polyline, none for a subpath that has none: M Z; M L Z, M, M Z L, M L Z.
+fn marks_for_polylines() -> bool {
+    let points: [f32; 14] = [
+        0.0,
+        0.0,
+        4.0,
+        0.0,
+        1.0,
+        1.0,
+        2.0,
+        2.0,
+        3.0,
+        3.0,
+        5.0,
+        5.0,
+        6.0,
+        6.0,
+    ];
+    let none = marked(&[0, 4], &points[0..2], 0, 9, 9, 9);
+    let three = marked(&[0, 1, 4, 0, 0, 4, 1, 0, 1, 4], &points, 2, 1, 0, 1);
+    none && three
 }
 
 // ---- refusals
 
 // The refusal's number, with outputs of these lengths; 100 where a refused call wrote something.
-fn refusal_of(verbs: &[u8], points: &[f32], floats: usize, places: usize) -> u8
-    requires { ⌜ (floats ≤ 16) × (places ≤ 2) ⌝ }
+fn refusal_of(verbs: &[u8], points: &[f32], floats: usize, places: usize, bytes: usize) -> u8
+    requires { ⌜ (floats ≤ 16) × (places ≤ 2) × (bytes ≤ 2) ⌝ }
 {
     let mut out = [7.0f32; 16];
     let mut ends = [99usize; 2];
+    let mut marks = [9u8; 2];
     let r = flatten::flatten(
         verbs,
         points,
         0.25,
         &mut out[0..floats],
         &mut ends[0..places],
+        &mut marks[0..bytes],
     );
     if r.refused == 0 {
         return 0;
     }
     let same = out[0] == 7.0 && out[1] == 7.0 && out[13] == 7.0 && out[15] == 7.0;
-    if same && ends[0] == 99 && ends[1] == 99 {
+    if same && ends[0] == 99 && ends[1] == 99 && marks[0] == 9 && marks[1] == 9 {
         r.refused
     } else {
         100
@@ -399,11 +528,11 @@ fn refusal_of(verbs: &[u8], points: &[f32], floats: usize, places: usize) -> u8
 
 fn path_refusals() -> bool {
     let points: [f32; 6] = [0.0, 0.0, 8.0, 8.0, 16.0, 0.0];
-    let odd = refusal_of(&[0, 5, 4], &points[0..5], 16, 2);
-    let odd_out = refusal_of(&[0, 5, 4], &points, 5, 2);
-    let strange = refusal_of(&[1, 5, 4], &points, 2, 2);
-    let unmoved = refusal_of(&[1, 2, 4], &points, 2, 2);
-    let short = refusal_of(&[0, 2, 4], &points[0..4], 2, 2);
+    let odd = refusal_of(&[0, 5, 4], &points[0..5], 16, 2, 2);
+    let odd_out = refusal_of(&[0, 5, 4], &points, 5, 2, 2);
+    let strange = refusal_of(&[1, 5, 4], &points, 2, 2, 2);
+    let unmoved = refusal_of(&[1, 2, 4], &points, 2, 2, 2);
+    let short = refusal_of(&[0, 2, 4], &points[0..4], 2, 2, 2);
     odd == 1 && odd_out == 1 && strange == 5 && unmoved == 6 && short == 6
 }
 
@@ -411,19 +540,20 @@ fn path_refusals() -> bool {
 fn limits() -> bool {
     let verbs = [5u8; 65537];
     let points: [f32; 6] = [0.0, 0.0, 8.0, 8.0, 16.0, 0.0];
-    let many = refusal_of(&verbs, &points, 2, 2);
-    let full = refusal_of(&verbs[0..65536], &points, 2, 2);
+    let many = refusal_of(&verbs, &points, 2, 2, 2);
+    let full = refusal_of(&verbs[0..65536], &points, 2, 2, 2);
     many == 4 && full == 5
 }
 
 // Buffers exactly full, and each one short.
 fn room() -> bool {
     let points: [f32; 6] = [0.0, 0.0, 8.0, 8.0, 16.0, 0.0];
-    let small = refusal_of(&[0, 2, 4], &points, 12, 1);
-    let no_ends = refusal_of(&[0, 2, 4], &points, 14, 0);
-    let fits = refusal_of(&[0, 2, 4], &points, 14, 1);
-    let no_need = refusal_of(&[0], &points[0..2], 0, 0);
-    small == 3 && no_ends == 3 && fits == 0 && no_need == 0
+    let small = refusal_of(&[0, 2, 4], &points, 12, 1, 1);
+    let no_ends = refusal_of(&[0, 2, 4], &points, 14, 0, 1);
+    let no_marks = refusal_of(&[0, 2, 4], &points, 14, 1, 0);
+    let fits = refusal_of(&[0, 2, 4], &points, 14, 1, 1);
+    let no_need = refusal_of(&[0], &points[0..2], 0, 0, 0);
+    small == 3 && no_ends == 3 && no_marks == 3 && fits == 0 && no_need == 0
 }
 
 fn main() {
@@ -448,6 +578,12 @@ fn main() {
     say(empty_subpaths(), b"empty subpaths");
     say(two_polylines(), b"two polylines");
     say(nothing(), b"no verbs");
+    say(marks_by_last_verb(), b"marks by the last verb");
+    say(
+        marks_without_a_point(),
+        b"marks where no closing point is added",
+    );
+    say(marks_for_polylines(), b"a mark for each polyline");
     say(path_refusals(), b"refusals of a path");
     say(limits(), b"limits");
     say(room(), b"room");

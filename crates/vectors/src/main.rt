@@ -324,7 +324,8 @@ fn ask_convexity(data: &[u32], t: Tape, verbs: &[u8], points: &[f32]) -> Tape {
 fn ask_flatten(data: &[u32], t: Tape, verbs: &[u8], points: &[f32], tolerance: f32) -> Tape {
     let mut out = [0.0f32; 4096];
     let mut ends = [0usize; 256];
-    let r = flatten::flatten(verbs, points, tolerance, &mut out, &mut ends);
+    let mut marks = [0u8; 256];
+    let r = flatten::flatten(verbs, points, tolerance, &mut out, &mut ends, &mut marks);
     let mut u = expect(data, t, wide(r.refused));
     u = expect_count(data, u, r.starts);
     u = expect_count(data, u, r.lines);

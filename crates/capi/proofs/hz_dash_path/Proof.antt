@@ -25,8 +25,11 @@ same-length-3 c = search needs
 same-length-4 : tie.Need-same-length-4
 same-length-4 c = search needs
 
+same-length-5 : tie.Need-same-length-5
+same-length-5 c = search needs
+
 returns : tie.Need-returns
-returns c = dash-out _ _ _ _ _ _ _ _ _ _ _ _ (c .dashed-out .ensures) (c .before .before .before .before .before .before .before .before .before .dash-path .ensures) (c .before .before .before .before .before .before .before .before .before .before .before .before .before .before .rule-in .ensures)
+returns c = dash-out _ _ _ _ _ _ _ _ _ _ _ _ _ (c .dashed-out .ensures) (c .before .before .before .before .before .before .before .before .before .before .before .dash-path .ensures) (c .before .before .before .before .before .before .before .before .before .before .before .before .before .before .before .before .before .rule-in .ensures)
 
 pub hz-dash-path-spec : {M : Type 1} → statement M
 hz-dash-path-spec =
@@ -39,4 +42,5 @@ hz-dash-path-spec =
     same-length-2
     same-length-3
     same-length-4
+    same-length-5
     returns)

@@ -17,12 +17,12 @@ use Rattle.dash.proofs.cut.Statement.{statement}
 use Rattle.dash.proofs.cut.Tie as tie
 
 -- what the flattening leaves where it is not refused
-left : (c : tie.Else1) → let a = c .before .before .before .before .before .before .before .before .before .before .before .before .before .before .before .before .before .args in let f = c .before .before .before .before .before .before .flatten in
-    Kept (now (a .verbs)) (now (a .points)) (a .tolerance) (now (a .scratch)) (now (a .ends)) (c .before .before .before .before .before .before .before .before .before .before .before .before .before .before .before .before .before .pre .0) (c .before .before .before .before .before .before .before .before .before .before .before .before .before .before .before .before .before .pre .1) (f .result) (f .last .1 .1 .1 .0) (f .last .1 .1 .1 .1 .0)
+left : (c : tie.Else1) → let a = c .before .before .before .before .before .before .before .before .before .before .before .before .before .before .before .before .before .before .before .before .before .args in let f = c .before .before .before .before .before .before .before .before .flatten in
+    Kept (now (a .verbs)) (now (a .points)) (a .tolerance) (now (a .scratch)) (now (a .ends)) (now (a .marks)) (c .before .before .before .before .before .before .before .before .before .before .before .before .before .before .before .before .before .before .before .before .before .pre .0) (c .before .before .before .before .before .before .before .before .before .before .before .before .before .before .before .before .before .before .before .before .before .pre .1) (f .result) (f .last .1 .1 .1 .0) (f .last .1 .1 .1 .1 .0) (f .last .1 .1 .1 .1 .1 .0)
 left c =
-    let a = c .before .before .before .before .before .before .before .before .before .before .before .before .before .before .before .before .before .args in
-    let f = c .before .before .before .before .before .before .flatten in
-    kept (now (a .verbs)) (now (a .points)) (a .tolerance) (now (a .scratch)) (now (a .ends)) (c .before .before .before .before .before .before .before .before .before .before .before .before .before .before .before .before .before .pre .0) (c .before .before .before .before .before .before .before .before .before .before .before .before .before .before .before .before .before .pre .1) (f .result) _ _ (f .ensures) (c .if1 .left)
+    let a = c .before .before .before .before .before .before .before .before .before .before .before .before .before .before .before .before .before .before .before .before .before .args in
+    let f = c .before .before .before .before .before .before .before .before .flatten in
+    kept (now (a .verbs)) (now (a .points)) (a .tolerance) (now (a .scratch)) (now (a .ends)) (now (a .marks)) (c .before .before .before .before .before .before .before .before .before .before .before .before .before .before .before .before .before .before .before .before .before .pre .0) (c .before .before .before .before .before .before .before .before .before .before .before .before .before .before .before .before .before .before .before .before .before .pre .1) (f .result) _ _ _ (f .ensures) (c .if1 .left)
 
 ordered : {n m : ℕ} {l k : List ℕ} → n ≡ m → l ≡ k → Ordered m 0 k → Ordered n 0 l
 ordered p q o = rw (p, q) o
@@ -36,12 +36,15 @@ same-length c = search needs
 same-length-2 : tie.Need-same-length-2
 same-length-2 c = search needs
 
+same-length-3 : tie.Need-same-length-3
+same-length-3 c = search needs
+
 returns : tie.Need-returns
 returns c =
-    let a = c .before .before .before .before .before .before .before .before .before .before .before .before .before .before .before .before .before .args in
-    let f = c .before .before .before .before .before .before .flatten in
-    let u = full (now (a .verbs)) (now (a .points)) (a .tolerance) (now (a .scratch)) (now (a .ends)) (c .before .before .before .before .before .before .before .before .before .before .before .before .before .before .before .before .before .pre .0) (c .before .before .before .before .before .before .before .before .before .before .before .before .before .before .before .before .before .pre .1) (f .result) _ _ (f .ensures) (c .if1 .taken) in
-    scratch-full (now (a .verbs)) (now (a .points)) (a .rule) (now (a .intervals)) (a .phase) (a .tolerance) (now (a .scratch)) (now (a .ends)) (now (a .vs)) (now (a .fs)) (u .misfit) _ _ (u .scratch-is) (u .ends-are)
+    let a = c .before .before .before .before .before .before .before .before .before .before .before .before .before .before .before .before .before .before .before .before .before .args in
+    let f = c .before .before .before .before .before .before .before .before .flatten in
+    let u = full (now (a .verbs)) (now (a .points)) (a .tolerance) (now (a .scratch)) (now (a .ends)) (now (a .marks)) (c .before .before .before .before .before .before .before .before .before .before .before .before .before .before .before .before .before .before .before .before .before .pre .0) (c .before .before .before .before .before .before .before .before .before .before .before .before .before .before .before .before .before .before .before .before .before .pre .1) (f .result) _ _ _ (f .ensures) (c .if1 .taken) in
+    scratch-full (now (a .verbs)) (now (a .points)) (a .rule) (now (a .intervals)) (a .phase) (a .tolerance) (now (a .scratch)) (now (a .ends)) (now (a .marks)) (now (a .vs)) (now (a .fs)) (u .misfit) _ _ _ (u .scratch-is) (u .ends-are) (u .marks-are)
 
 sum-of-requires : tie.Need-sum-of-requires
 sum-of-requires c κs = search needs
@@ -50,7 +53,7 @@ start-of-requires : tie.Need-start-of-requires
 start-of-requires c κs = search needs
 
 mul-n : tie.Need-mul-n
-mul-n c = omega (arith, left (c .before .before .before) .room, c .before .before .before .before .before .before .before .before .before .flatten .kept, c .before .before .before .before .before .before .before .before .before .before .before .before .before .before .before .before .before .before .before .before .good)
+mul-n c = omega (arith, left (c .before .before .before) .room, c .before .before .before .before .before .before .before .before .before .before .before .flatten .kept, c .before .before .before .before .before .before .before .before .before .before .before .before .before .before .before .before .before .before .before .before .before .before .before .before .good)
 
 slice-reshare-prefix-cut-all : tie.Need-slice-reshare-prefix-cut-all
 slice-reshare-prefix-cut-all c = left (c .before .before .before) .room
@@ -66,14 +69,11 @@ slice-aggregate-cut-all-2 c = sym (length-take-le _ _ (left (c .before .before .
 
 cut-all-requires : tie.Need-cut-all-requires
 cut-all-requires c κs =
-    let a = c .before .before .before .before .before .before .before .before .before .before .before .before .before .before .before .before .before .before .before .before .before .before .before .before .args in
+    let a = c .before .before .before .before .before .before .before .before .before .before .before .before .before .before .before .before .before .before .before .before .before .before .before .before .before .before .before .before .args in
     let k = left (c .before .before .before .before .before .before .before) in (
       c .before .before .before .before .before .start-of .ensures .1,
       ordered (ap length (k .points) ∙ length-flat (pointsOut (a .tolerance) (segments (now (a .verbs)) (now (a .points))))) (k .polylines) (ends-ordered (a .tolerance) (segments (now (a .verbs)) (now (a .points)))),
     )
-
-same-length-3 : tie.Need-same-length-3
-same-length-3 c = search needs
 
 same-length-4 : tie.Need-same-length-4
 same-length-4 c = search needs
@@ -84,14 +84,20 @@ same-length-5 c = search needs
 same-length-6 : tie.Need-same-length-6
 same-length-6 c = search needs
 
+same-length-7 : tie.Need-same-length-7
+same-length-7 c = search needs
+
+same-length-8 : tie.Need-same-length-8
+same-length-8 c = search needs
+
 returns-2 : tie.Need-returns-2
 returns-2 c =
-    let a = c .before .before .before .before .before .before .before .before .before .before .before .before .before .before .before .before .before .before .before .before .before .before .before .before .before .before .before .before .before .args in
-    let f = c .before .before .before .before .before .before .before .before .before .before .before .before .before .before .before .before .before .before .flatten in
+    let a = c .before .before .before .before .before .before .before .before .before .before .before .before .before .before .before .before .before .before .before .before .before .before .before .before .before .before .before .before .before .before .before .before .before .args in
+    let f = c .before .before .before .before .before .before .before .before .before .before .before .before .before .before .before .before .before .before .before .before .flatten in
     let k = left (c .before .before .before .before .before .before .before .before .before .before .before .before) in
-    scratch-kept (now (a .verbs)) (now (a .points)) (a .rule) (now (a .intervals)) (a .phase) (a .tolerance) (now (a .scratch)) (now (a .ends)) (now (a .vs)) (now (a .fs)) (k .fit) _ _ (k .scratch-is) (k .ends-are)
+    scratch-kept (now (a .verbs)) (now (a .points)) (a .rule) (now (a .intervals)) (a .phase) (a .tolerance) (now (a .scratch)) (now (a .ends)) (now (a .marks)) (now (a .vs)) (now (a .fs)) (k .fit) _ _ _ (k .scratch-is) (k .ends-are) (k .marks-are)
     (take (2 * f .result .points) (f .last .1 .1 .1 .0)) (take (f .result .polylines) (f .last .1 .1 .1 .1 .0)) (k .points) (k .polylines)
-    (now (a .cycle)) (c .before .before .before .before .before .before .before .before .before .before .before .before .before .before .before .before .before .before .before .before .before .before .before .before .before .before .before .before .before .pre .2) (c .before .before .before .before .before .before .before .before .before .before .before .sum-of .result) (c .before .before .before .before .before .before .before .before .before .before .before .sum-of .ensures) (c .before .before .before .before .before .before .before .before .before .before .start-of .result) (c .before .before .before .before .before .before .before .before .before .before .start-of .ensures .0) (f .result .held) (k .held) _ _ _ (c .before .before .before .before .cut-all .ensures)
+    (now (a .cycle)) (c .before .before .before .before .before .before .before .before .before .before .before .before .before .before .before .before .before .before .before .before .before .before .before .before .before .before .before .before .before .before .before .before .before .pre .2) (c .before .before .before .before .before .before .before .before .before .before .before .sum-of .result) (c .before .before .before .before .before .before .before .before .before .before .before .sum-of .ensures) (c .before .before .before .before .before .before .before .before .before .before .start-of .result) (c .before .before .before .before .before .before .before .before .before .before .start-of .ensures .0) (f .result .held) (k .held) _ _ _ (c .before .before .before .before .cut-all .ensures)
 
 pub cut-spec : {M : Type 1} → statement M
 cut-spec =
@@ -100,6 +106,7 @@ cut-spec =
     flatten-requires
     same-length
     same-length-2
+    same-length-3
     returns
     sum-of-requires
     start-of-requires
@@ -109,8 +116,9 @@ cut-spec =
     slice-reshare-prefix-cut-all-2
     slice-aggregate-cut-all-2
     cut-all-requires
-    same-length-3
     same-length-4
     same-length-5
     same-length-6
+    same-length-7
+    same-length-8
     returns-2)

@@ -12,18 +12,18 @@ use borrow.Author.Needs.{needs}
 use Rattle.dash.proofs.dash_path.Statement.{statement}
 use Rattle.dash.proofs.dash_path.Tie as tie
 
+-- nothing is refused
+passed : (c : tie.Else1) → let a = c .before .before .before .before .before .before .before .before .before .before .args in 0 ≡ refusal (now (a .verbs)) (now (a .points)) (now (a .intervals)) (length (now (a .scratch))) (length (now (a .dash-points)))
+passed c = sym (c .if1 .left) ∙ c .before .refusal .ensures
+
 refusal-requires : tie.Need-refusal-requires
 refusal-requires c κs = search needs
 
--- nothing is refused
-passed : (c : tie.Else1) → let a = c .before .before .before .before .before .before .before .before .before .args in 0 ≡ refusal (now (a .verbs)) (now (a .points)) (now (a .intervals)) (length (now (a .scratch))) (length (now (a .dash-points)))
-passed c = sym (c .if1 .left) ∙ c .before .refusal .ensures
-
 returns : tie.Need-returns
-returns c = let a = c .before .before .before .before .before .before .before .before .before .args in is-refused (now (a .verbs)) (now (a .points)) (a .rule) (now (a .intervals)) (a .phase) (a .tolerance) (now (a .scratch)) (now (a .ends)) (now (a .dash-verbs)) (now (a .dash-points)) _ (c .before .refusal .ensures) (c .if1 .taken)
+returns c = let a = c .before .before .before .before .before .before .before .before .before .before .args in is-refused (now (a .verbs)) (now (a .points)) (a .rule) (now (a .intervals)) (a .phase) (a .tolerance) (now (a .scratch)) (now (a .ends)) (now (a .marks)) (now (a .dash-verbs)) (now (a .dash-points)) _ (c .before .refusal .ensures) (c .if1 .taken)
 
 cycle-of-requires : tie.Need-cycle-of-requires
-cycle-of-requires c κs = let a = c .before .before .before .before .before .before .before .before .before .args in none-refused (now (a .verbs)) (now (a .points)) (a .rule) (now (a .intervals)) (a .phase) (a .tolerance) (now (a .scratch)) (now (a .ends)) (now (a .dash-verbs)) (now (a .dash-points)) (passed c) .2
+cycle-of-requires c κs = let a = c .before .before .before .before .before .before .before .before .before .before .args in none-refused (now (a .verbs)) (now (a .points)) (a .rule) (now (a .intervals)) (a .phase) (a .tolerance) (now (a .scratch)) (now (a .ends)) (now (a .marks)) (now (a .dash-verbs)) (now (a .dash-points)) (passed c) .2
 
 array-share-prefix-values : tie.Need-array-share-prefix-values
 array-share-prefix-values c = let r = c .before .cycle-of in omega (arith, length-take (r .result .len) (r .result .values), ap length (r .ensures .1), r .ensures .0)
@@ -36,10 +36,10 @@ is-cut-requires c κs = search needs
 
 cut-requires : tie.Need-cut-requires
 cut-requires c κs =
-    let a = c .before .before .before .before .before .before .before .before .before .before .before .before .before .before .before .before .before .before .args in
-    let n = none-refused (now (a .verbs)) (now (a .points)) (a .rule) (now (a .intervals)) (a .phase) (a .tolerance) (now (a .scratch)) (now (a .ends)) (now (a .dash-verbs)) (now (a .dash-points)) (passed (c .before .before .before .before .before .before .before .before .before)) in
-    let e = c .before .before .before .before .before .before .before .before .cycle-of .ensures .1 in
-    (n .0, n .1, e, subst (λ (z : List Float). 0 < length z) (sym e) (cuts-some (now (a .intervals)) (a .phase) (a .tolerance) (sym (c .before .before .before .before .before .is-cut .ensures) ∙ c .before .before .before .before .if2 .taken)))
+    let a = c .before .before .before .before .before .before .before .before .before .before .before .before .before .before .before .before .before .before .before .before .args in
+    let n = none-refused (now (a .verbs)) (now (a .points)) (a .rule) (now (a .intervals)) (a .phase) (a .tolerance) (now (a .scratch)) (now (a .ends)) (now (a .marks)) (now (a .dash-verbs)) (now (a .dash-points)) (passed (c .before .before .before .before .before .before .before .before .before .before)) in
+    let e = c .before .before .before .before .before .before .before .before .before .cycle-of .ensures .1 in
+    (n .0, n .1, e, subst (λ (z : List Float). 0 < length z) (sym e) (cuts-some (now (a .intervals)) (a .phase) (a .tolerance) (sym (c .before .before .before .before .before .before .is-cut .ensures) ∙ c .before .before .before .before .before .if2 .taken)))
 
 same-length : tie.Need-same-length
 same-length c = search needs
@@ -53,11 +53,18 @@ same-length-3 c = search needs
 same-length-4 : tie.Need-same-length-4
 same-length-4 c = search needs
 
+same-length-5 : tie.Need-same-length-5
+same-length-5 c = search needs
+
 returns-2 : tie.Need-returns-2
-returns-2 c = let a = c .before .before .before .before .before .before .before .before .before .before .before .before .before .before .before .before .before .before .before .before .before .before .before .before .before .before .before .args in is-cut (now (a .verbs)) (now (a .points)) (a .rule) (now (a .intervals)) (a .phase) (a .tolerance) (now (a .scratch)) (now (a .ends)) (now (a .dash-verbs)) (now (a .dash-points)) (passed (c .before .before .before .before .before .before .before .before .before .before .before .before .before .before .before .before .before .before)) (sym (c .before .before .before .before .before .before .before .before .before .before .before .before .before .before .is-cut .ensures) ∙ c .before .before .before .before .before .before .before .before .before .before .before .before .before .if2 .taken) _ (c .before .before .before .before .before .before .before .before .cut .ensures)
+returns-2 c =
+    let a = c .before .before .before .before .before .before .before .before .before .before .before .before .before .before .before .before .before .before .before .before .before .before .before .before .before .before .before .before .before .before .before .args in
+    is-cut (now (a .verbs)) (now (a .points)) (a .rule) (now (a .intervals)) (a .phase) (a .tolerance) (now (a .scratch)) (now (a .ends)) (now (a .marks)) (now (a .dash-verbs)) (now (a .dash-points)) (passed (c .before .before .before .before .before .before .before .before .before .before .before .before .before .before .before .before .before .before .before .before .before)) (sym (c .before .before .before .before .before .before .before .before .before .before .before .before .before .before .before .before .before .is-cut .ensures) ∙ c .before .before .before .before .before .before .before .before .before .before .before .before .before .before .before .before .if2 .taken) _ (c .before .before .before .before .before .before .before .before .before .before .cut .ensures)
 
 returns-3 : tie.Need-returns-3
-returns-3 c = let a = c .before .before .before .before .before .before .before .before .before .before .before .before .before .before .args in whole (now (a .verbs)) (now (a .points)) (a .rule) (now (a .intervals)) (a .phase) (a .tolerance) (now (a .scratch)) (now (a .ends)) (now (a .dash-verbs)) (now (a .dash-points)) (passed (c .before .before .before .before .before)) (sym (c .before .is-cut .ensures) ∙ c .if2 .left)
+returns-3 c =
+    let a = c .before .before .before .before .before .before .before .before .before .before .before .before .before .before .before .args in
+    whole (now (a .verbs)) (now (a .points)) (a .rule) (now (a .intervals)) (a .phase) (a .tolerance) (now (a .scratch)) (now (a .ends)) (now (a .marks)) (now (a .dash-verbs)) (now (a .dash-points)) (passed (c .before .before .before .before .before)) (sym (c .before .is-cut .ensures) ∙ c .if2 .left)
 
 pub dash-path-spec : {M : Type 1} → statement M
 dash-path-spec =
@@ -74,5 +81,6 @@ dash-path-spec =
     same-length-2
     same-length-3
     same-length-4
+    same-length-5
     returns-2
     returns-3)
