@@ -6,7 +6,7 @@
  * Every call ends on every input, NaN and infinities included, keeps no memory and no state of its own, and may be called from any thread.
  * What each call answers, and what it leaves in each buffer, is proved against one definition (crates/capi/src/lib.rt names it).
  *
- * Buffers. A buffer goes as a pointer and a length. The length is in elements: bytes for verbs, floats (not points) for coordinates. With
+ * Buffers. A buffer goes as a pointer and a length. The length is in elements: bytes for verbs and marks, floats (not points) for coordinates. With
  * length 0 the pointer may be NULL. A buffer that is written to must not overlap another
  * buffer of the same call. Only what a call is said to write changes.
  *
@@ -35,6 +35,11 @@ enum { HZ_MOVE = 0, HZ_LINE = 1, HZ_QUAD = 2, HZ_CUBIC = 3, HZ_CLOSE = 4 };
 /* Fill rules. Any byte but 0 is taken for even-odd. */
 enum { HZ_NON_ZERO = 0, HZ_EVEN_ODD = 1 };
 
+/* Marks: a byte for each polyline, by which a stroker puts caps on open lines and a join on closed ones. A polyline is closed exactly where the last
+ * verb of its subpath is a close, even where no closing point was added: its last point may equal its first already, and to a NaN start none is ever
+ * added. A drawn verb behind the close leaves it open. */
+enum { HZ_OPEN = 0, HZ_CLOSED = 1 };
+
 /* Limits. */
 enum { HZ_MAX_VERBS = 65536, HZ_MAX_POINTS = 131072, HZ_MAX_INTERVALS = 64, HZ_MAX_SEGMENTS = 1000, HZ_MAX_QUADS = 64, HZ_MAX_STYLE = 8 };
 
@@ -42,13 +47,13 @@ enum { HZ_MAX_VERBS = 65536, HZ_MAX_POINTS = 131072, HZ_MAX_INTERVALS = 64, HZ_M
 #define HZ_DEFAULT_TOLERANCE 0.25f
 
 /* Refusals: the field `refused` of an answer, 0 for none. A refused call touches no buffer and returns the state that it was given, but after a
- * dashing's HZ_OUTPUT_FULL for the dash buffers the scratch holds the flattened polylines. */
+ * dashing's HZ_OUTPUT_FULL for the dash buffers the scratch holds the flattened polylines, with their ends and marks. */
 enum {
     HZ_OK = 0,
     /* who lends memory */
     HZ_ODD_FLOATS = 1,   /* a coordinate buffer has an odd number of floats: lend two floats for each point */
     HZ_BUILDER_FULL = 2, /* a builder call needs more verbs or points than its buffers or the limits have left: lend more, or start another path */
-    HZ_OUTPUT_FULL = 3,  /* flattening or dashing yields more than an output can take (scratch; dash buffers up to the path limits): lend more */
+    HZ_OUTPUT_FULL = 3,  /* flattening or dashing yields more than an output can take (points, ends, marks; dashes up to the limits): lend more */
     /* who hands in a path */
     HZ_OVER_LIMIT = 4,   /* over HZ_MAX_VERBS verbs or HZ_MAX_POINTS points: split the path */
     HZ_NO_VERB = 5,      /* a verb byte over 4 */
@@ -125,7 +130,7 @@ typedef struct {
 /* A flattening's totals: points is starts + lines + counts + closings, and polylines equals starts. All 0 in a refusal. */
 typedef struct {
     size_t points;            /* points written, in all polylines together */
-    size_t polylines;         /* polylines written: so many numbers in `ends` */
+    size_t polylines;         /* polylines written: so many numbers in `ends`, and so many bytes in `marks` */
     size_t starts;            /* kept starts: moves whose subpath has a drawn verb */
     size_t lines;
     size_t counts;            /* the sum of all curves' N */
@@ -172,7 +177,7 @@ typedef struct {
     size_t verbs;             /* verbs in the dash buffer */
     size_t points;            /* points in the dash buffer */
     size_t scratch;           /* points in the scratch */
-    size_t polylines;         /* polylines in the scratch: so many numbers in `ends` */
+    size_t polylines;         /* polylines in the scratch: so many numbers in `ends`, and so many bytes in `marks` */
     size_t held;              /* curves of the path that were held back at HZ_MAX_SEGMENTS; the 0 of an answer that is not cut says nothing of the
                                  path: hz_flatten at the same tolerance does */
     uint8_t kind;             /* HZ_WHOLE, HZ_CUT or HZ_REFUSED */
@@ -239,11 +244,12 @@ HzReplayed hz_replay(const uint8_t *kinds, size_t kinds_len, const float *number
 /* 1, 4, 5 or 6 for a path that is refused, in this order, else 0. */
 uint8_t hz_check(const uint8_t *verbs, size_t verbs_len, const float *points, size_t points_len);
 
-/* Writes the polylines' points end to end into `out`, and for each polyline the number of points at which it ends into `ends`. Measured first:
- * where either is too short nothing is written. A curve writes at most HZ_MAX_SEGMENTS points, any other verb at most one. A tolerance that is a NaN
- * or below 2^-126 counts as 2^-126, at which nearly every curve that bends is held back. */
+/* Writes the polylines' points end to end into `out`, for each polyline the number of points at which it ends into `ends`, and its mark, HZ_OPEN or
+ * HZ_CLOSED, into `marks`. Measured first: where one of the three is too short nothing is written. A curve writes at most HZ_MAX_SEGMENTS points, any
+ * other verb at most one. There are as many marks as ends, and at most as many of each as the path has moves. A tolerance that is a NaN or below
+ * 2^-126 counts as 2^-126, at which nearly every curve that bends is held back. */
 HzFlattened hz_flatten(const uint8_t *verbs, size_t verbs_len, const float *points, size_t points_len, float tolerance, float *out, size_t out_len,
-                       size_t *ends, size_t ends_len);
+                       size_t *ends, size_t ends_len, uint8_t *marks, size_t marks_len);
 
 /* The N that the curve at verb `index` is flattened with, and whether it was held back. */
 HzCarried hz_carried_count(const uint8_t *verbs, size_t verbs_len, const float *points, size_t points_len, float tolerance, size_t index);
@@ -273,11 +279,11 @@ bool hz_is_usable(const float *intervals, size_t intervals_len, float phase);
 /* The intervals of a line style, 0 to HZ_MAX_STYLE. Style 0 has none: a path is drawn whole with it. */
 HzLineStyle hz_line_style(size_t number);
 
-/* Cuts a path into the drawn runs of a pattern. The path is flattened into `scratch` and `ends`, and the runs, moves and lines, go to the dash
- * buffers. `rule` is the path's fill rule. */
+/* Cuts a path into the drawn runs of a pattern. The path is flattened into `scratch`, `ends` and `marks`, as by hz_flatten, and the runs, moves and
+ * lines, go to the dash buffers. Runs have no marks: none is closed. `rule` is the path's fill rule. */
 HzDashed hz_dash_path(const uint8_t *verbs, size_t verbs_len, const float *points, size_t points_len, uint8_t rule, const float *intervals,
                       size_t intervals_len, float phase, float tolerance, float *scratch, size_t scratch_len, size_t *ends, size_t ends_len,
-                      uint8_t *dash_verbs, size_t dash_verbs_len, float *dash_points, size_t dash_points_len);
+                      uint8_t *marks, size_t marks_len, uint8_t *dash_verbs, size_t dash_verbs_len, float *dash_points, size_t dash_points_len);
 
 /* The outline to draw by a dashing's answer: the first `points` points of the path's own buffer where it is Whole, else the filled part of the
  * dash buffer. Nothing where the numbers do not fit. */

@@ -172,23 +172,24 @@ static void flattening(void) {
     float points[] = {0, 0, 8, 8, 16, 0, 16, 4};
     float out[16];
     size_t ends[2];
+    uint8_t marks[2];
     for (int i = 0; i < 16; i++) out[i] = 7;
-    HzFlattened f = hz_flatten(verbs, 4, points, 8, 0.25f, out, 16, ends, 2);
+    HzFlattened f = hz_flatten(verbs, 4, points, 8, 0.25f, out, 16, ends, 2, marks, 2);
     CHECK(f.refused == HZ_OK && f.points == 8 && f.polylines == 1 && f.starts == 1 && f.lines == 1 && f.counts == 5 && f.closings == 1);
     CHECK(f.held == 0);
     CHECK(ends[0] == 8 && out[10] == 16 && out[12] == 16 && out[13] == 4 && out[14] == 0 && out[15] == 0);
 
     float kept[16];
     memcpy(kept, out, sizeof out);
-    CHECK(hz_flatten(verbs, 4, points, 8, 0.25f, out, 14, ends, 2).refused == HZ_OUTPUT_FULL);
-    CHECK(hz_flatten(verbs, 4, points, 8, 0.25f, out, 16, ends, 0).refused == HZ_OUTPUT_FULL);
-    CHECK(hz_flatten(verbs, 4, points, 8, 0.25f, out, 15, ends, 2).refused == HZ_ODD_FLOATS);
-    CHECK(hz_flatten(verbs, 4, points, 7, 0.25f, out, 16, ends, 2).refused == HZ_ODD_FLOATS);
-    CHECK(hz_flatten(verbs, 4, points, 6, 0.25f, out, 16, ends, 2).refused == HZ_BAD_PATH);
-    f = hz_flatten(verbs, 4, points, 8, 0.25f, NULL, 0, NULL, 0);
+    CHECK(hz_flatten(verbs, 4, points, 8, 0.25f, out, 14, ends, 2, marks, 2).refused == HZ_OUTPUT_FULL);
+    CHECK(hz_flatten(verbs, 4, points, 8, 0.25f, out, 16, ends, 0, marks, 2).refused == HZ_OUTPUT_FULL);
+    CHECK(hz_flatten(verbs, 4, points, 8, 0.25f, out, 15, ends, 2, marks, 2).refused == HZ_ODD_FLOATS);
+    CHECK(hz_flatten(verbs, 4, points, 7, 0.25f, out, 16, ends, 2, marks, 2).refused == HZ_ODD_FLOATS);
+    CHECK(hz_flatten(verbs, 4, points, 6, 0.25f, out, 16, ends, 2, marks, 2).refused == HZ_BAD_PATH);
+    f = hz_flatten(verbs, 4, points, 8, 0.25f, NULL, 0, NULL, 0, NULL, 0);
     CHECK(f.refused == HZ_OUTPUT_FULL && f.points == 0 && f.counts == 0);
     CHECK(memcmp(kept, out, sizeof out) == 0);
-    f = hz_flatten(NULL, 0, NULL, 0, 0.25f, NULL, 0, NULL, 0);
+    f = hz_flatten(NULL, 0, NULL, 0, 0.25f, NULL, 0, NULL, 0, NULL, 0);
     CHECK(f.refused == HZ_OK && f.points == 0);
 
     CHECK(hz_carried_count(verbs, 4, points, 8, 0.25f, 1).count == 5);
@@ -220,9 +221,10 @@ static HzDashed dash_held(Lent lent, size_t *end) {
     float pattern[HZ_MAX_INTERVALS + 1] = {1e7f, 1};
     static float scratch[2 * DASH_ROOM], drawn[2 * DASH_ROOM];
     static uint8_t laid[DASH_ROOM];
+    uint8_t mark;
     *end = 0;
-    return hz_dash_path(verbs, 3, points, lent.floats, 0, pattern, lent.intervals, 0, 1e-7f, scratch, 2 * lent.scratch, end, 1, laid, lent.dashes,
-                        drawn, 2 * lent.dashes);
+    return hz_dash_path(verbs, 3, points, lent.floats, 0, pattern, lent.intervals, 0, 1e-7f, scratch, 2 * lent.scratch, end, 1, &mark, 1, laid,
+                        lent.dashes, drawn, 2 * lent.dashes);
 }
 
 /* Nothing is counted, held curves included. */
@@ -253,14 +255,15 @@ static void held_back(void) {
     float points[] = {0, 0, 8, 8, 16, 0, 2e6f, 0, 16, 16, INFINITY, 0, 0, 0, 0, 16};
     static float out[2 * POINTS];
     size_t ends[1];
-    HzFlattened f = hz_flatten(verbs, 4, points, 16, 0.25f, out, 2 * POINTS, ends, 1);
+    uint8_t marks[1];
+    HzFlattened f = hz_flatten(verbs, 4, points, 16, 0.25f, out, 2 * POINTS, ends, 1, marks, 1);
     CHECK(f.refused == HZ_OK && f.points == POINTS && f.counts == 2005 && f.held == 2);
-    f = hz_flatten(verbs, 4, points, 16, 0.25f, out, 2 * POINTS - 2, ends, 1);
+    f = hz_flatten(verbs, 4, points, 16, 0.25f, out, 2 * POINTS - 2, ends, 1, marks, 1);
     CHECK(f.refused == HZ_OUTPUT_FULL && f.held == 0);
-    f = hz_flatten(verbs, 4, points, 15, 0.25f, out, 2 * POINTS, ends, 1);
+    f = hz_flatten(verbs, 4, points, 15, 0.25f, out, 2 * POINTS, ends, 1, marks, 1);
     CHECK(f.refused == HZ_ODD_FLOATS && f.held == 0);
     /* a NaN counts as the smallest tolerance, at which the first curve is held back too */
-    f = hz_flatten(verbs, 2, points, 6, NAN, out, 2 * POINTS, ends, 1);
+    f = hz_flatten(verbs, 2, points, 6, NAN, out, 2 * POINTS, ends, 1, marks, 1);
     CHECK(f.refused == HZ_OK && f.counts == HZ_MAX_SEGMENTS && f.held == 1);
 
     size_t counts[] = {0, 5, HZ_MAX_SEGMENTS, HZ_MAX_SEGMENTS, 0};
@@ -346,9 +349,9 @@ static void dashing(void) {
     float pattern[65] = {2, 1};
     float scratch[4], drawn[12];
     size_t ends[1];
-    uint8_t laid[6];
+    uint8_t marks[1], laid[6];
     memset(laid, 0xa5, sizeof laid);
-    HzDashed d = hz_dash_path(verbs, 2, points, 4, 9, pattern, 2, 0, 0.25f, scratch, 4, ends, 1, laid, 6, drawn, 12);
+    HzDashed d = hz_dash_path(verbs, 2, points, 4, 9, pattern, 2, 0, 0.25f, scratch, 4, ends, 1, marks, 1, laid, 6, drawn, 12);
     CHECK(d.refused == HZ_OK && d.kind == HZ_CUT && d.verbs == 6 && d.points == 6 && d.scratch == 2 && d.polylines == 1 && d.fill_rule == HZ_EVEN_ODD);
     float want[] = {0, 0, 2, 0, 3, 0, 5, 0, 6, 0, 8, 0};
     CHECK(memcmp(drawn, want, sizeof want) == 0 && memcmp(scratch, points, sizeof points) == 0 && ends[0] == 2);
@@ -361,26 +364,26 @@ static void dashing(void) {
     /* outputs one short: first the scratch, then the dashes */
     memset(laid, 0xa5, sizeof laid);
     memset(scratch, 0, sizeof scratch);
-    d = hz_dash_path(verbs, 2, points, 4, 0, pattern, 2, 0, 0.25f, scratch, 2, ends, 1, laid, 6, drawn, 12);
+    d = hz_dash_path(verbs, 2, points, 4, 0, pattern, 2, 0, 0.25f, scratch, 2, ends, 1, marks, 1, laid, 6, drawn, 12);
     CHECK(d.refused == HZ_OUTPUT_FULL && d.kind == HZ_REFUSED && scratch[2] == 0);
-    d = hz_dash_path(verbs, 2, points, 4, 0, pattern, 2, 0, 0.25f, scratch, 4, ends, 1, laid, 5, drawn, 12);
+    d = hz_dash_path(verbs, 2, points, 4, 0, pattern, 2, 0, 0.25f, scratch, 4, ends, 1, marks, 1, laid, 5, drawn, 12);
     CHECK(d.refused == HZ_OUTPUT_FULL && scratch[2] == 8 && laid[0] == 0xa5);
-    d = hz_dash_path(verbs, 2, points, 4, 0, pattern, 2, 0, 0.25f, scratch, 4, ends, 1, laid, 6, drawn, 10);
+    d = hz_dash_path(verbs, 2, points, 4, 0, pattern, 2, 0, 0.25f, scratch, 4, ends, 1, marks, 1, laid, 6, drawn, 10);
     CHECK(d.refused == HZ_OUTPUT_FULL && d.verbs == 0);
     CHECK(hz_drawn_outline(points, 4, 2, drawn, 12, d).floats == 0);
-    CHECK(hz_dash_path(verbs, 2, points, 4, 0, pattern, 2, 0, 0.25f, scratch, 3, ends, 1, laid, 6, drawn, 12).refused == HZ_ODD_FLOATS);
-    CHECK(hz_dash_path(verbs, 2, points, 4, 0, pattern, 65, 0, 0.25f, scratch, 4, ends, 1, laid, 6, drawn, 12).refused == HZ_LONG_PATTERN);
-    CHECK(hz_dash_path(verbs, 2, points, 2, 0, pattern, 65, 0, 0.25f, scratch, 4, ends, 1, laid, 6, drawn, 12).refused == HZ_BAD_PATH);
+    CHECK(hz_dash_path(verbs, 2, points, 4, 0, pattern, 2, 0, 0.25f, scratch, 3, ends, 1, marks, 1, laid, 6, drawn, 12).refused == HZ_ODD_FLOATS);
+    CHECK(hz_dash_path(verbs, 2, points, 4, 0, pattern, 65, 0, 0.25f, scratch, 4, ends, 1, marks, 1, laid, 6, drawn, 12).refused == HZ_LONG_PATTERN);
+    CHECK(hz_dash_path(verbs, 2, points, 2, 0, pattern, 65, 0, 0.25f, scratch, 4, ends, 1, marks, 1, laid, 6, drawn, 12).refused == HZ_BAD_PATH);
 
     /* whole: no output is needed */
     float fine[] = {0.125f, 0.125f};
-    d = hz_dash_path(verbs, 2, points, 4, 1, fine, 2, 0, 0.25f, NULL, 0, NULL, 0, NULL, 0, NULL, 0);
+    d = hz_dash_path(verbs, 2, points, 4, 1, fine, 2, 0, 0.25f, NULL, 0, NULL, 0, NULL, 0, NULL, 0, NULL, 0);
     CHECK(d.refused == HZ_OK && d.kind == HZ_WHOLE && d.fill_rule == 0);
     o = hz_drawn_outline(points, 4, 2, NULL, 0, d);
     CHECK(o.from_dash == 0 && o.floats == 4);
-    d = hz_dash_path(verbs, 2, points, 4, 1, NULL, 0, 0, 0.25f, NULL, 0, NULL, 0, NULL, 0, NULL, 0);
+    d = hz_dash_path(verbs, 2, points, 4, 1, NULL, 0, 0, 0.25f, NULL, 0, NULL, 0, NULL, 0, NULL, 0, NULL, 0);
     CHECK(d.refused == HZ_OK && d.kind == HZ_WHOLE);
-    d = hz_dash_path(verbs, 2, points, 4, 1, pattern, 2, 0, 0.25f, NULL, 0, NULL, 0, NULL, 0, NULL, 0);
+    d = hz_dash_path(verbs, 2, points, 4, 1, pattern, 2, 0, 0.25f, NULL, 0, NULL, 0, NULL, 0, NULL, 0, NULL, 0);
     CHECK(d.refused == HZ_OUTPUT_FULL);
 
     CHECK(hz_is_usable(pattern, 2, 0) && !hz_is_usable(pattern, 2, INFINITY) && !hz_is_usable(NULL, 0, 0));
