@@ -174,9 +174,11 @@ static void flattening(void) {
     size_t ends[2];
     uint8_t marks[2];
     for (int i = 0; i < 16; i++) out[i] = 7;
+    marks[1] = 7;
     HzFlattened f = hz_flatten(verbs, 4, points, 8, 0.25f, out, 16, ends, 2, marks, 2);
     CHECK(f.refused == HZ_OK && f.points == 8 && f.polylines == 1 && f.starts == 1 && f.lines == 1 && f.counts == 5 && f.closings == 1);
     CHECK(f.held == 0);
+    CHECK(marks[0] == HZ_CLOSED && marks[1] == 7);
     CHECK(ends[0] == 8 && out[10] == 16 && out[12] == 16 && out[13] == 4 && out[14] == 0 && out[15] == 0);
 
     float kept[16];
@@ -275,6 +277,130 @@ static void held_back(void) {
     HzCarried c = hz_carried_count(verbs, 4, points, 14, 0.25f, 2);
     CHECK(c.refused == HZ_BAD_PATH && c.count == 0 && !c.held);
     held_back_in_dashes();
+}
+
+enum { LETTERS = 16, LENT_ENDS = 4, LENT_FLOATS = 64, LENT_VERBS = LENT_FLOATS / 2 };
+
+/* A path. */
+typedef struct {
+    uint8_t verbs[LETTERS];
+    float points[6 * LETTERS];
+    size_t len, floats;
+} Lettered;
+
+/* The path whose verbs have these letters. Its points lie on a parabola, so that no verb ends where its subpath starts. */
+static Lettered lettered(const char *letters) {
+    static const char names[] = "MLQCZ";
+    static const int uses[] = {1, 1, 2, 3, 0};
+    Lettered p = {.len = strlen(letters)};
+    for (size_t i = 0; i < p.len; i++) {
+        p.verbs[i] = (uint8_t)(strchr(names, letters[i]) - names);
+        for (int k = 0; k < uses[p.verbs[i]]; k++) {
+            float x = (float)p.floats;
+            p.points[p.floats++] = x;
+            p.points[p.floats++] = x * x;
+        }
+    }
+    return p;
+}
+
+/* All that a flattening and a dashing can write to. */
+typedef struct {
+    size_t ends[LENT_ENDS];
+    float flat[LENT_FLOATS], drawn[LENT_FLOATS];
+    uint8_t marks[LENT_ENDS], laid[LENT_VERBS];
+} Written;
+
+static int untouched(const void *from, size_t bytes) {
+    const uint8_t *b = from;
+    while (bytes > 0 && b[bytes - 1] == 0xa5) bytes--;
+    return bytes == 0;
+}
+
+/* Whether the marks are these, written as digits, and the bytes past the last as they were. */
+static int marked(const Written *w, const char *marks) {
+    size_t n = strlen(marks);
+    for (size_t i = 0; i < n; i++) {
+        if (w->marks[i] != marks[i] - '0') return 0;
+    }
+    return untouched(w->marks + n, LENT_ENDS - n);
+}
+
+/* Flattens with room for so many marks. */
+static HzFlattened flatten_marked(const Lettered *p, Written *w, size_t marks) {
+    memset(w, 0xa5, sizeof *w);
+    return hz_flatten(p->verbs, p->len, p->points, p->floats, 0.25f, w->flat, LENT_FLOATS, w->ends, LENT_ENDS, w->marks, marks);
+}
+
+/* Dashes by so many intervals, one run for each polyline, with room for so many marks and so many verbs of dashes. */
+static HzDashed dash_marked(const Lettered *p, Written *w, size_t intervals, size_t marks, size_t dashes) {
+    float pattern[HZ_MAX_INTERVALS + 1] = {1e6f, 1};
+    memset(w, 0xa5, sizeof *w);
+    return hz_dash_path(p->verbs, p->len, p->points, p->floats, 0, pattern, intervals, 0, 0.25f, w->flat, LENT_FLOATS, w->ends, LENT_ENDS, w->marks,
+                        marks, w->laid, dashes, w->drawn, 2 * dashes);
+}
+
+/* A mark says whether the last verb of its subpath is a close. A subpath with no drawn verb has none, and the marks behind it keep pace with the
+ * ends. As many marks as there are polylines are enough; with one less nothing is written. */
+static void marks_of_paths(void) {
+    static const char *const cases[][2] = {
+        {"", ""},           {"M", ""},      {"MZ", ""},     {"MZZ", ""},          {"ML", "0"},         {"MLZ", "1"},     {"MLZL", "0"},
+        {"MLZLZ", "1"},     {"MLZZ", "1"},  {"MZL", "0"},   {"MZLZ", "1"},        {"MQ", "0"},         {"MCZ", "1"},     {"MLZC", "0"},
+        {"MQZQZ", "1"},     {"MLM", "0"},   {"MLZM", "1"},  {"MLZMMLMLZ", "101"}, {"MLMZMLZ", "01"},   {"MZMLZMZ", "1"}, {"MLZMLMLZML", "1010"},
+    };
+    for (size_t i = 0; i < sizeof cases / sizeof *cases; i++) {
+        const char *letters = cases[i][0], *marks = cases[i][1];
+        size_t n = strlen(marks);
+        Lettered p = lettered(letters);
+        Written w;
+        HzFlattened f = flatten_marked(&p, &w, LENT_ENDS);
+        check(f.refused == HZ_OK && f.polylines == n && marked(&w, marks), letters, __LINE__);
+        check((n == 0 || w.ends[n - 1] == f.points) && untouched(w.ends + n, (LENT_ENDS - n) * sizeof *w.ends), letters, __LINE__);
+        check(flatten_marked(&p, &w, n).refused == HZ_OK && marked(&w, marks), letters, __LINE__);
+        check(n == 0 || (flatten_marked(&p, &w, n - 1).refused == HZ_OUTPUT_FULL && untouched(&w, sizeof w)), letters, __LINE__);
+        HzDashed d = dash_marked(&p, &w, 2, n, LENT_VERBS);
+        check(d.kind == HZ_CUT && d.polylines == n && d.scratch == f.points && marked(&w, marks), letters, __LINE__);
+    }
+}
+
+/* The mark does not depend on whether the close added a point. None is added where the last point equals the first already, by value, or where the
+ * first is a NaN, which equals nothing. */
+static void marks_of_closings(void) {
+    static const struct {
+        float first, last;
+        size_t closings;
+    } cases[] = {{0, 0, 0}, {0, -0.0f, 0}, {-0.0f, 0, 0}, {NAN, 0, 0}, {NAN, NAN, 0}, {0, 1, 1}, {0, NAN, 1}};
+    for (size_t i = 0; i < sizeof cases / sizeof *cases; i++) {
+        Lettered p = lettered("MLLZ"), open = lettered("MLLZL");
+        p.points[0] = open.points[0] = cases[i].first;
+        p.points[4] = open.points[4] = cases[i].last;
+        p.points[5] = open.points[5] = 0;
+        Written w;
+        CHECK(flatten_marked(&p, &w, 1).closings == cases[i].closings && marked(&w, "1"));
+        CHECK(flatten_marked(&open, &w, 1).closings == cases[i].closings && marked(&w, "0"));
+    }
+}
+
+/* The marks' room is the scratch's. */
+static void marks_in_dashes(void) {
+    Lettered p = lettered("MLZMMLMLZ");
+    Written w;
+    HzDashed d = dash_marked(&p, &w, 2, 3, LENT_VERBS);
+    CHECK(d.refused == HZ_OK && d.kind == HZ_CUT && d.polylines == 3 && d.scratch == 8 && marked(&w, "101"));
+    CHECK(uncut(dash_marked(&p, &w, 2, 2, LENT_VERBS), HZ_REFUSED, HZ_OUTPUT_FULL) && untouched(&w, sizeof w));
+    CHECK(uncut(dash_marked(&p, &w, 2, 0, LENT_VERBS), HZ_REFUSED, HZ_OUTPUT_FULL) && untouched(&w, sizeof w));
+    /* the dash buffers are one verb short as well, or alone: then the scratch was written, with its marks */
+    CHECK(uncut(dash_marked(&p, &w, 2, 2, d.verbs - 1), HZ_REFUSED, HZ_OUTPUT_FULL) && untouched(&w, sizeof w));
+    CHECK(uncut(dash_marked(&p, &w, 2, 3, d.verbs - 1), HZ_REFUSED, HZ_OUTPUT_FULL) && marked(&w, "101") && w.ends[2] == 8);
+    CHECK(untouched(w.laid, sizeof w.laid) && untouched(w.drawn, sizeof w.drawn));
+    /* whole touches none and needs none */
+    CHECK(uncut(dash_marked(&p, &w, 0, LENT_ENDS, LENT_VERBS), HZ_WHOLE, HZ_OK) && untouched(&w, sizeof w));
+    CHECK(uncut(dash_marked(&p, &w, 0, 0, 0), HZ_WHOLE, HZ_OK) && untouched(&w, sizeof w));
+    /* other refusals come first, and touch none */
+    CHECK(uncut(dash_marked(&p, &w, HZ_MAX_INTERVALS + 1, 0, LENT_VERBS), HZ_REFUSED, HZ_LONG_PATTERN) && untouched(&w, sizeof w));
+    p.floats -= 2;
+    CHECK(uncut(dash_marked(&p, &w, 2, 0, LENT_VERBS), HZ_REFUSED, HZ_BAD_PATH) && untouched(&w, sizeof w));
+    CHECK(flatten_marked(&p, &w, 0).refused == HZ_BAD_PATH && untouched(&w, sizeof w));
 }
 
 static void questions(void) {
@@ -422,6 +548,9 @@ int main(void) {
     replayed();
     flattening();
     held_back();
+    marks_of_paths();
+    marks_of_closings();
+    marks_in_dashes();
     questions();
     dashing();
     printf("C interface: %d checks passed, %d failed\n", passed, failed);
