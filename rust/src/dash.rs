@@ -34,11 +34,14 @@ impl Dash {
 }
 
 /// What dashing gives.
+// One answer is made for a whole path, so its size does not matter, and a box would only stand in its readers' way.
+#[allow(clippy::large_enum_variant)]
 #[derive(Debug, Clone, PartialEq)]
 pub enum Dashed {
     /// The pattern doesn't cut: the path is drawn as it is.
     Whole,
-    /// The drawn runs as a path of moves and lines, with the path's fill rule and no note, and the polylines that were walked.
+    /// The drawn runs as a path of moves and lines, with the path's fill rule and no note, and the polylines that were walked, with their marks. Runs
+    /// have no marks: none is closed.
     Cut { path: Path, polylines: Polylines },
 }
 
@@ -77,12 +80,12 @@ impl Dashed {
 /// ```
 pub fn dash_path(path: &Path, dash: &Dash, tolerance: f32) -> Result<Dashed, Refusal> {
     let size = Size::of(path, tolerance);
-    let (mut scratch, mut ends) = size.buffers();
+    let mut scratch = size.room();
     // Every dash verb uses one point, so the limit on verbs binds first. Memory that isn't written to isn't taken up.
     let (mut verbs, mut points) = (vec![0u8; MAX_VERBS], vec![Vec2::ZERO; MAX_VERBS]);
-    let (s, s_len) = floats_mut(&mut scratch);
+    let (s, s_len) = floats_mut(&mut scratch.points);
     let (d, d_len) = floats_mut(&mut points);
-    // SAFETY: path and pattern are only read; the four outputs are lent for the call with their own lengths.
+    // SAFETY: path and pattern are only read; the five outputs are lent for the call with their own lengths.
     let r = path.ask(|v, l, p, m| unsafe {
         ffi::hz_dash_path(
             v,
@@ -96,8 +99,10 @@ pub fn dash_path(path: &Path, dash: &Dash, tolerance: f32) -> Result<Dashed, Ref
             tolerance,
             s,
             s_len,
-            ends.as_mut_ptr(),
-            ends.len(),
+            scratch.ends.as_mut_ptr(),
+            scratch.ends.len(),
+            scratch.marks.as_mut_ptr(),
+            scratch.marks.len(),
             verbs.as_mut_ptr(),
             verbs.len(),
             d,
@@ -108,10 +113,15 @@ pub fn dash_path(path: &Path, dash: &Dash, tolerance: f32) -> Result<Dashed, Ref
     if r.kind == 0 {
         return Ok(Dashed::Whole);
     }
-    points.truncate(r.points);
+    let polylines = scratch.filled(size.totals(r.scratch, r.polylines, r.held));
+    Ok(Dashed::Cut { path: runs(&verbs, points, r), polylines })
+}
+
+/// The filled part of the dash buffers as a path.
+fn runs(verbs: &[u8], mut points: Vec<Vec2>, answer: ffi::Dashed) -> Path {
+    points.truncate(answer.points);
     points.shrink_to_fit();
-    let path = Path::of_dash(&verbs[..r.verbs], points, FillRule::of(r.fill_rule));
-    Ok(Dashed::Cut { path, polylines: size.filled(scratch, ends, r.scratch, r.polylines, r.held) })
+    Path::of_dash(&verbs[..answer.verbs], points, FillRule::of(answer.fill_rule))
 }
 
 /// The intervals of a line style, 0 to 8; style 0 has none. Refused with 9 over 8.

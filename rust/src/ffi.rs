@@ -180,6 +180,8 @@ extern "C" {
         out_len: usize,
         ends: *mut usize,
         ends_len: usize,
+        marks: *mut u8,
+        marks_len: usize,
     ) -> Flattened;
     pub fn hz_carried_count(verbs: *const u8, verbs_len: usize, points: *const f32, points_len: usize, tolerance: f32, index: usize) -> Carried;
     pub fn hz_bounds(verbs: *const u8, verbs_len: usize, points: *const f32, points_len: usize) -> Bounds;
@@ -208,6 +210,8 @@ extern "C" {
         scratch_len: usize,
         ends: *mut usize,
         ends_len: usize,
+        marks: *mut u8,
+        marks_len: usize,
         dash_verbs: *mut u8,
         dash_verbs_len: usize,
         dash_points: *mut f32,

@@ -7,6 +7,8 @@ use crate::refusal::Refusal;
 pub const DEFAULT_TOLERANCE: f32 = 0.25;
 /// The most segments of a single curve.
 pub const MAX_SEGMENTS: u32 = 1000;
+/// The mark of a closed polyline; an open one's is 0.
+const CLOSED: u8 = 1;
 
 /// N, the number of straight segments that a curve becomes, and whether it was held back at [`MAX_SEGMENTS`].
 ///
@@ -40,12 +42,29 @@ pub struct Totals {
     pub held: usize,
 }
 
-/// The polylines of a flattened path.
+/// The polylines of a flattened path, each with a mark that says whether it is closed: a stroker puts a join on closed ones and caps on open ones.
+///
+/// A polyline is closed exactly where the last verb of its subpath is a close, even where no closing point was added, since its last point may equal
+/// its first already, and to a NaN start none is ever added. A drawn verb behind the close leaves it open. So the points alone do not tell.
+///
+/// ```
+/// # fn main() -> Result<(), hizlaou::Refusal> {
+/// use hizlaou::{flatten, PathBuilder, Vec2};
+/// let (a, b) = (Vec2::ZERO, Vec2::new(8.0, 0.0));
+/// let mut path = PathBuilder::new();
+/// path.move_to(a)?.line_to(b)?.line_to(a)?.close()?;
+/// path.move_to(a)?.line_to(b)?.line_to(a)?;
+/// let flat = flatten(&path.build(), 0.25)?;
+/// assert_eq!(flat.get(0), flat.get(1));
+/// assert_eq!((flat.is_closed(0), flat.is_closed(1)), (Some(true), Some(false)));
+/// # Ok(()) }
+/// ```
 #[derive(Debug, Clone, PartialEq, Default)]
 pub struct Polylines {
-    pub(crate) points: Vec<Vec2>,
-    pub(crate) ends: Vec<usize>,
-    pub(crate) totals: Totals,
+    points: Vec<Vec2>,
+    ends: Vec<usize>,
+    marks: Vec<u8>,
+    totals: Totals,
 }
 
 impl Polylines {
@@ -68,6 +87,11 @@ impl Polylines {
         &self.ends
     }
 
+    /// For each polyline a byte: 1 if it is closed, else 0. [`Polylines::is_closed`] and [`Polylines::closed`] say the same in words.
+    pub fn marks(&self) -> &[u8] {
+        &self.marks
+    }
+
     pub fn totals(&self) -> Totals {
         self.totals
     }
@@ -79,6 +103,11 @@ impl Polylines {
         Some(&self.points[start..end])
     }
 
+    /// Whether the polyline at an index is closed.
+    pub fn is_closed(&self, index: usize) -> Option<bool> {
+        self.marks.get(index).map(|&mark| mark == CLOSED)
+    }
+
     /// The polylines, first to last.
     pub fn iter(&self) -> impl ExactSizeIterator<Item = &[Vec2]> + '_ {
         let mut start = 0;
@@ -87,6 +116,39 @@ impl Polylines {
             start = end;
             line
         })
+    }
+
+    /// For each polyline, first to last, whether it is closed.
+    ///
+    /// ```
+    /// # fn main() -> Result<(), hizlaou::Refusal> {
+    /// use hizlaou::{flatten, PathBuilder, Vec2};
+    /// let mut b = PathBuilder::new();
+    /// b.line_to(Vec2::new(8.0, 0.0))?.line_to(Vec2::new(8.0, 8.0))?.close()?.move_to(Vec2::ZERO)?.line_to(Vec2::new(8.0, 8.0))?;
+    /// let flat = flatten(&b.build(), 0.25)?;
+    /// let lines: Vec<_> = flat.iter().zip(flat.closed()).map(|(points, is_closed)| (points.len(), is_closed)).collect();
+    /// assert_eq!(lines, [(4, true), (2, false)]);
+    /// # Ok(()) }
+    /// ```
+    pub fn closed(&self) -> impl ExactSizeIterator<Item = bool> + '_ {
+        self.marks.iter().map(|&mark| mark == CLOSED)
+    }
+}
+
+/// What is lent to a flattening: room for the points, and for an end and a mark of each polyline.
+pub(crate) struct Room {
+    pub(crate) points: Vec<Vec2>,
+    pub(crate) ends: Vec<usize>,
+    pub(crate) marks: Vec<u8>,
+}
+
+impl Room {
+    /// The polylines that a flattening with these totals left.
+    pub(crate) fn filled(mut self, totals: Totals) -> Polylines {
+        self.points.truncate(totals.points);
+        self.ends.truncate(totals.polylines);
+        self.marks.truncate(totals.polylines);
+        Polylines { points: self.points, ends: self.ends, marks: self.marks, totals }
     }
 }
 
@@ -112,25 +174,16 @@ impl Size {
         size
     }
 
-    /// Buffers that hold the flattened path.
-    pub(crate) fn buffers(&self) -> (Vec<Vec2>, Vec<usize>) {
-        (vec![Vec2::ZERO; self.moves + self.lines + self.counts + self.closes], vec![0; self.moves])
+    /// Room for the flattened path.
+    pub(crate) fn room(&self) -> Room {
+        let points = vec![Vec2::ZERO; self.moves + self.lines + self.counts + self.closes];
+        Room { points, ends: vec![0; self.moves], marks: vec![0; self.moves] }
     }
 
-    /// The polylines of a flattening that wrote so many points and polylines, and held so many curves back.
-    pub(crate) fn filled(&self, mut points: Vec<Vec2>, mut ends: Vec<usize>, written: usize, polylines: usize, held: usize) -> Polylines {
-        points.truncate(written);
-        ends.truncate(polylines);
-        let totals = Totals {
-            points: written,
-            polylines,
-            starts: polylines,
-            lines: self.lines,
-            counts: self.counts,
-            closings: written - polylines - self.lines - self.counts,
-            held,
-        };
-        Polylines { points, ends, totals }
+    /// The totals of a flattening that wrote so many points and polylines, and held so many curves back.
+    pub(crate) fn totals(&self, points: usize, polylines: usize, held: usize) -> Totals {
+        let closings = points - polylines - self.lines - self.counts;
+        Totals { points, polylines, starts: polylines, lines: self.lines, counts: self.counts, closings, held }
     }
 }
 
@@ -152,7 +205,7 @@ fn counted(path: &Path, tolerance: f32) -> impl Iterator<Item = (Verb, SegmentCo
     })
 }
 
-/// Flattens a path into polylines, one for each subpath with a drawn verb.
+/// Flattens a path into polylines, one for each subpath with a drawn verb, and says of each whether it is closed.
 ///
 /// ```
 /// # fn main() -> Result<(), hizlaou::Refusal> {
@@ -165,17 +218,16 @@ fn counted(path: &Path, tolerance: f32) -> impl Iterator<Item = (Verb, SegmentCo
 /// # Ok(()) }
 /// ```
 pub fn flatten(path: &Path, tolerance: f32) -> Result<Polylines, Refusal> {
-    let size = Size::of(path, tolerance);
-    let (mut points, mut ends) = size.buffers();
-    let (out, n) = floats_mut(&mut points);
-    // SAFETY: the path is only read; points and ends are lent for the call with their own lengths.
-    let r = path.ask(|v, l, p, m| unsafe { ffi::hz_flatten(v, l, p, m, tolerance, out, n, ends.as_mut_ptr(), ends.len()) });
+    let mut room = Size::of(path, tolerance).room();
+    let (out, n) = floats_mut(&mut room.points);
+    let (ends, ends_len) = (room.ends.as_mut_ptr(), room.ends.len());
+    let (marks, marks_len) = (room.marks.as_mut_ptr(), room.marks.len());
+    // SAFETY: the path is only read; points, ends and marks are lent for the call with their own lengths.
+    let r = path.ask(|v, l, p, m| unsafe { ffi::hz_flatten(v, l, p, m, tolerance, out, n, ends, ends_len, marks, marks_len) });
     Refusal::check(r.refused)?;
-    points.truncate(r.points);
-    ends.truncate(r.polylines);
     let totals =
         Totals { points: r.points, polylines: r.polylines, starts: r.starts, lines: r.lines, counts: r.counts, closings: r.closings, held: r.held };
-    Ok(Polylines { points, ends, totals })
+    Ok(room.filled(totals))
 }
 
 /// The N that the curve at a verb's index is flattened with, and whether it was held back: 0 and false for a verb that is no curve, and past the

@@ -11,8 +11,9 @@
 //! let mut b = PathBuilder::new().with_fill_rule(FillRule::EvenOdd);
 //! b.move_to(Vec2::new(0.0, 0.0))?.cubic_to(Vec2::new(0.0, 8.0), Vec2::new(16.0, 8.0), Vec2::new(16.0, 0.0))?.close()?;
 //! let path = b.build();
-//! for polyline in flatten(&path, DEFAULT_TOLERANCE)?.iter() {
-//!     println!("{polyline:?}");
+//! let flat = flatten(&path, DEFAULT_TOLERANCE)?;
+//! for (polyline, is_closed) in flat.iter().zip(flat.closed()) {
+//!     println!("{}: {polyline:?}", if is_closed { "closed" } else { "open" });
 //! }
 //! let dashes = dash_path(&path, &Dash::new(line_style(3)?, 0.0), DEFAULT_TOLERANCE)?;
 //! println!("{} verbs", dashes.outline(&path).verbs().len());
