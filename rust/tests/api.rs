@@ -121,6 +121,7 @@ fn a_cut_has_the_polylines_and_totals_that_flattening_gives() -> Checked {
     let flat = flatten(&path, 0.25)?;
     assert_eq!(flat.totals(), Totals { points: 8, polylines: 1, starts: 1, lines: 1, counts: 5, closings: 1, held: 0 });
     assert_eq!((flat.len(), flat.ends(), flat.get(0).map(<[Vec2]>::len), flat.get(1)), (1, &[8][..], Some(8), None));
+    assert_eq!((flat.marks(), flat.is_closed(0), flat.is_closed(1)), (&[1][..], Some(true), None));
     assert_eq!(flat.iter().flatten().count(), flat.points().len());
     assert_eq!(carried_count(&path, 0.25, 2)?, SegmentCount { count: 5, held: false });
     let dashed = dash_path(&path, &Dash::new(line_style(3)?, 1.5), 0.25)?;
