@@ -216,7 +216,7 @@ fn flattening(what: &str, calls: &[Call], tolerance: f32) {
     let drawn: usize = path.verbs().iter().filter(|v| **v != Verb::MoveTo).count();
     let flat = flatten(&path, tolerance);
     let n: usize = flat.iter().map(Vec::len).sum();
-    let (mut out, mut ends) = (vec![0f32; 2 * n], vec![0usize; flat.len()]);
+    let (mut out, mut ends, mut marks) = (vec![0f32; 2 * n], vec![0usize; flat.len()], vec![0u8; flat.len()]);
     let mut own = || {
         // SAFETY: the path is read; the outputs are lent with their own lengths.
         let r = unsafe {
@@ -230,6 +230,8 @@ fn flattening(what: &str, calls: &[Call], tolerance: f32) {
                 out.len(),
                 ends.as_mut_ptr(),
                 ends.len(),
+                marks.as_mut_ptr(),
+                marks.len(),
             )
         };
         assert_eq!((r.refused, r.points), (0, n));
@@ -249,7 +251,7 @@ fn dashing(what: &str, calls: &[Call], intervals: &[f32]) {
     let cut = dash_path(&path, &dash, tolerance);
     let laid = cut.verbs().len();
     assert!(laid <= 65_536);
-    let (mut scratch, mut ends) = (vec![0f32; 2 * n], vec![0usize; flat.len()]);
+    let (mut scratch, mut ends, mut marks) = (vec![0f32; 2 * n], vec![0usize; flat.len()], vec![0u8; flat.len()]);
     let (mut verbs, mut points) = (vec![0u8; laid], vec![0f32; 2 * laid]);
     let mut own = || {
         // SAFETY: path and pattern are read; the outputs are lent with their own lengths.
@@ -268,6 +270,8 @@ fn dashing(what: &str, calls: &[Call], intervals: &[f32]) {
                 scratch.len(),
                 ends.as_mut_ptr(),
                 ends.len(),
+                marks.as_mut_ptr(),
+                marks.len(),
                 verbs.as_mut_ptr(),
                 verbs.len(),
                 points.as_mut_ptr(),
