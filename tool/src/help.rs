@@ -33,7 +33,7 @@ Let a script stop where a lane would go to air without gaps:
   hizlaou preview --pattern "0.1 0.1" --refuse-whole -o lane.svg course.path || echo "not this one"
 
 COMMANDS
-  flatten    curves to polylines, with the totals
+  flatten    curves to polylines, each closed (ending in Z) or open, with the totals
   dash       the drawn runs of the pattern, or the outline itself where it is drawn whole
   convexity  Convex or Concave (a path with a curve or a second move is always Concave)
   bounds     the box round all points, control points included; finite? in range?

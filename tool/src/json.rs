@@ -82,6 +82,7 @@ fn flattened(out: &mut dyn Write, polylines: &Polylines, held: &Held, order: &Or
     write!(out, "{{\"command\":\"flatten\",\"tolerance\":{},\"rule\":\"{}\"", Json(order.tolerance), rule_name(order.rule))?;
     out.write_all(b",\"polylines\":")?;
     lists(out, polylines.iter(), progress)?;
+    write!(out, ",\"closed\":{}", array(polylines.closed()))?;
     let t = polylines.totals();
     let numbers = [
         ("points", t.points),

@@ -40,8 +40,8 @@ fn held_back(held: &Held) -> String {
 
 fn flattened(out: &mut dyn Write, polylines: &Polylines, held: &Held, progress: impl Fn(usize)) -> io::Result<()> {
     let mut done = 0;
-    for (number, points) in polylines.iter().enumerate() {
-        writeln!(out, "polyline {}: {}", number + 1, count(points.len(), "point"))?;
+    for (number, (points, is_closed)) in polylines.iter().zip(polylines.closed()).enumerate() {
+        writeln!(out, "polyline {}: {}, {}", number + 1, count(points.len(), "point"), if is_closed { "closed" } else { "open" })?;
         for &p in points {
             point(out, p)?;
             done += 1;

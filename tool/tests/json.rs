@@ -122,6 +122,26 @@ fn flattened_points_read_back() {
 }
 
 #[test]
+fn each_polyline_is_closed_or_open() {
+    let cases: [(&str, &[&str]); 6] = [
+        ("", &[]),
+        ("M0 0Z", &[]),
+        ("M0 0H4V4Z", &["true"]),
+        ("M0 0H4V4H0V0", &["false"]),
+        ("M0 0H4ZV4", &["false"]),
+        ("M0 0H4V4ZM9 9M0 0H4M0 0ZM0 0H4V0H0Z", &["true", "false", "true"]),
+    ];
+    for (data, closed) in cases {
+        let answer = read(&run(&["flatten", "--json", "-d", data]).out);
+        let words: Vec<Value> = closed.iter().map(|&word| Value::Word(word.into())).collect();
+        assert_eq!((list(get(&answer, "closed")), list(get(&answer, "polylines")).len()), (&words[..], closed.len()), "{data}");
+    }
+    for command in [&["dash", "--style", "1"][..], &["dash"], &["convexity"], &["bounds"]] {
+        assert!(!run(&[command, &["--json", "-d", "M0 0H4V4Z"]].concat()).out.contains("closed"), "{command:?}");
+    }
+}
+
+#[test]
 fn runs_and_totals_of_a_dash() {
     let answer = read(&run(&["dash", "--json", "--pattern", "2 1", "-d", "M0 0H8"]).out);
     let runs: Vec<Vec<f32>> = list(get(&answer, "runs")).iter().map(|r| points(r).iter().map(|p| p.x).collect()).collect();
