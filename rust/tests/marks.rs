@@ -77,12 +77,12 @@ fn a_mark_does_not_depend_on_an_added_closing() -> Checked {
     let nan = f32::NAN;
     for (first, last, closings) in [(0., 0., 0), (0., -0., 0), (-0., 0., 0), (nan, 0., 0), (nan, nan, 0), (0., 1., 1), (0., nan, 1)] {
         let mut b = PathBuilder::new();
-        b.move_to(Vec2::new(first, 0.))?.line_to(Vec2::new(4., 0.))?.line_to(Vec2::new(last, 0.))?.close()?;
-        let closed = flatten(&b.clone().build(), 0.25)?;
-        assert_eq!((closed.marks(), closed.totals().closings), (&[1][..], closings), "{first} {last}");
-        b.line_to(Vec2::new(4., 4.))?;
-        let open = flatten(&b.build(), 0.25)?;
-        assert_eq!((open.marks(), open.totals().closings), (&[0][..], closings), "{first} {last}");
+        b.move_to(Vec2::new(first, 0.))?.line_to(Vec2::new(4., 0.))?.line_to(Vec2::new(last, 0.))?;
+        let before = flatten(&b.clone().build(), 0.25)?;
+        let closed = flatten(&b.close()?.clone().build(), 0.25)?;
+        let after = flatten(&b.line_to(Vec2::new(4., 4.))?.clone().build(), 0.25)?;
+        assert_eq!([before.marks(), closed.marks(), after.marks()], [[0], [1], [0]], "{first} {last}");
+        assert_eq!([&before, &closed, &after].map(|flat| flat.totals().closings), [0, closings, closings], "{first} {last}");
     }
     Ok(())
 }

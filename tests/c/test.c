@@ -371,13 +371,18 @@ static void marks_of_closings(void) {
         size_t closings;
     } cases[] = {{0, 0, 0}, {0, -0.0f, 0}, {-0.0f, 0, 0}, {NAN, 0, 0}, {NAN, NAN, 0}, {0, 1, 1}, {0, NAN, 1}};
     for (size_t i = 0; i < sizeof cases / sizeof *cases; i++) {
-        Lettered p = lettered("MLLZ"), open = lettered("MLLZL");
-        p.points[0] = open.points[0] = cases[i].first;
-        p.points[4] = open.points[4] = cases[i].last;
-        p.points[5] = open.points[5] = 0;
+        Lettered p = lettered("MLLZL");
+        p.points[0] = cases[i].first;
+        p.points[4] = cases[i].last;
+        p.points[5] = 0;
         Written w;
+        CHECK(flatten_marked(&p, &w, 1).closings == cases[i].closings && marked(&w, "0"));
+        /* up to the close, and up to the verb before it */
+        p.len = 4;
+        p.floats = 6;
         CHECK(flatten_marked(&p, &w, 1).closings == cases[i].closings && marked(&w, "1"));
-        CHECK(flatten_marked(&open, &w, 1).closings == cases[i].closings && marked(&w, "0"));
+        p.len = 3;
+        CHECK(flatten_marked(&p, &w, 1).closings == 0 && marked(&w, "0"));
     }
 }
 
