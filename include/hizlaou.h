@@ -14,7 +14,9 @@
  * open in what is proved).
  *
  * Paths. Verbs are bytes: see HZ_MOVE to HZ_CLOSE; they use 1, 1, 2, 3, 0 points, end to end in the coordinate buffer. A path that is handed in
- * begins with a move, unless it is empty. Limits: HZ_MAX_VERBS, HZ_MAX_POINTS.
+ * begins with a move, unless it is empty. A subpath is a move with all that follows up to the next move, what is drawn behind a close included. One
+ * with a drawn verb (a line, a quad or a cubic) becomes one polyline, with one end and one mark; any other writes nothing. Limits: HZ_MAX_VERBS,
+ * HZ_MAX_POINTS.
  */
 #ifndef HIZLAOU_H
 #define HIZLAOU_H
@@ -35,7 +37,7 @@ enum { HZ_MOVE = 0, HZ_LINE = 1, HZ_QUAD = 2, HZ_CUBIC = 3, HZ_CLOSE = 4 };
 /* Fill rules. Any byte but 0 is taken for even-odd. */
 enum { HZ_NON_ZERO = 0, HZ_EVEN_ODD = 1 };
 
-/* Marks: a byte for each polyline, by which a stroker puts caps on open lines and a join on closed ones. A polyline is closed exactly where the last
+/* Marks of polylines: a byte for each, by which a stroker puts caps on open lines and a join on closed ones. A polyline is closed exactly where the last
  * verb of its subpath is a close, even where no closing point was added: its last point may equal its first already, and to a NaN start none is ever
  * added. A drawn verb behind the close leaves it open. */
 enum { HZ_OPEN = 0, HZ_CLOSED = 1 };

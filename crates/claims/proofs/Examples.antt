@@ -1,4 +1,4 @@
--- The starred examples of the scope and five of W2, together, computed from the definitions: tolerance 0.25, phase 0. Assumes nothing.
+-- The starred examples of the scope, five of W2 and eight of W4, together, computed from the definitions: tolerance 0.25, phase 0. Assumes nothing.
 use mathlib.Core.Path.{_≡_, refl}
 use mathlib.Core.Bool.{true, false}
 use mathlib.Core.List.{List, [], _∷_}
@@ -12,7 +12,7 @@ use Rattle.float.specs.Count.{segmentCount, heldBack}
 use Rattle.vec2.specs.declared.Vec2.{Vec2}
 use Rattle.vec2.specs.Vec2.{vec, anyNan, allFinite}
 use Rattle.path.specs.declared.Segment.{Segment}
-use Rattle.path.specs.declared.Segment.the-variants.{Move, Line, Close}
+use Rattle.path.specs.declared.Segment.the-variants.{Move, Line, Quad, Close}
 use Rattle.conic.specs.Conic.{straight}
 use Rattle.curve.specs.Count.{bend, quadCount, cubicCount}
 use Rattle.flatten.specs.Subpaths.{subpathsFrom, withDrawn, marksOut}
@@ -50,13 +50,16 @@ pub record Starred : Type 0 where
   pub held-∞ : heldBack (inf false) ≡ true
   pub held-below : heldBack (inf true) ≡ false
   pub held-nan : heldBack nan ≡ false
-  -- W4, the marks: M L Z L is open, M L Z Z closed, M Z L open; M Z has no polyline; a line back to the start and a close is closed; so is a NaN start
+  -- W4, the marks: M L Z L is open, M L Z Z closed, M Z L open; M Z has no polyline; a line back to the start and a close is closed; so is a NaN start; of M Z,
+  -- M, M Q Z, M just the third has a polyline
   pub mark-open : marksOut (Move (at 0 0) ∷ Line (at 1 0) ∷ Close ∷ Line (at 2 0) ∷ []) ≡ 0 ∷ []
   pub mark-twice : marksOut (Move (at 0 0) ∷ Line (at 1 0) ∷ Close ∷ Close ∷ []) ≡ 1 ∷ []
   pub mark-early : marksOut (Move (at 0 0) ∷ Close ∷ Line (at 1 0) ∷ []) ≡ 0 ∷ []
   pub mark-none : marksOut (Move (at 0 0) ∷ Close ∷ []) ≡ []
   pub mark-back : marksOut (Move (at 0 0) ∷ Line (at 1 0) ∷ Line (at 0 0) ∷ Close ∷ []) ≡ 1 ∷ []
   pub mark-nan : marksOut (Move (vec nan nan) ∷ Line (at 1 0) ∷ Close ∷ Move (at 0 0) ∷ Line (at 1 0) ∷ []) ≡ 1 ∷ 0 ∷ []
+  pub mark-empty : marksOut [] ≡ []
+  pub mark-alone : marksOut (Move (at 0 0) ∷ Close ∷ Move (at 1 0) ∷ Move (at 2 0) ∷ Quad (at 3 0) (at 3 1) ∷ Close ∷ Move (at 4 0) ∷ []) ≡ 1 ∷ []
   pub quad-bent : quadCount quarter (at 0 0) (at 8 8) (at 16 0) ≡ 5
   pub quad-straight : quadCount quarter (at 0 0) (at 8 0) (at 16 0) ≡ 1
   pub cubic-bent : cubicCount quarter (at 0 0) (at 0 8) (at 16 8) (at 16 0) ≡ 9
@@ -92,6 +95,8 @@ starred =
       mark-none = refl;
       mark-back = refl;
       mark-nan = refl;
+      mark-empty = refl;
+      mark-alone = refl;
       quad-bent = refl;
       quad-straight = refl;
       cubic-bent = refl;

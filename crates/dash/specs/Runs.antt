@@ -1,6 +1,6 @@
 -- Demand 3's dashing half, of the buffers that `dash_path` leaves: where it answers Cut, the filled part of the dash buffers is runs and nothing else, those of
--- the polylines that the scratch keeps, none left out, in order; and the outline has the path's fill rule and the number of its curves that were held back
--- (W2). Definitions only.
+-- the polylines that the scratch keeps with their marks (W4), none left out, in order; and the outline has the path's fill rule and the number of its curves
+-- that were held back (W2). Definitions only.
 use mathlib.Core.Path.{_≡_}
 use Prim.Native.Nat.{_*_}
 use mathlib.Core.Bool.{false}

@@ -135,8 +135,8 @@ module _ (vs : List ℕ) (fs : List Float) (tol : Float) (out : List Float) (es 
                 )
 
             pub has-room : (2 * usedBy vs ≤ length fs) × (2 * length (pointsOut tol (segments vs fs)) ≤ length out)
-                × (length (endsOut tol (segments vs fs)) ≤ length es) × (length (endsOut tol (segments vs fs)) ≤ length ms)
-            has-room = (omega (arith, sound vs fs good .used), omega (arith, means .points), omega (arith, means .polylines), omega (arith, means .polylines))
+                × (length (endsOut tol (segments vs fs)) ≤ length es) × (length (marksOut (segments vs fs)) ≤ length ms)
+            has-room = (omega (arith, sound vs fs good .used), omega (arith, means .points), omega (arith, means .polylines), omega (arith, long-marks))
 
             pub done : (o : List Float) (p q : List ℕ) →
                 (o ≡ sets out 0 (flat (pointsOut tol (segments vs fs)))) × (p ≡ sets es 0 (endsOut tol (segments vs fs))) × (q ≡ sets ms 0 (marksOut (segments vs fs))) →

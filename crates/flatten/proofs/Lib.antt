@@ -8,5 +8,6 @@ pub mod Counts
 pub mod Ends
 pub mod Subpaths
 pub mod Polylines
+pub mod Laws
 pub mod Kept
 pub mod Source

@@ -14,7 +14,7 @@ use Rattle.path.specs.declared.Segment.{Segment}
 use Rattle.path.specs.declared.Segment.the-variants.{Move, Line, Quad, Cubic, Close}
 use Rattle.path.specs.Segment.{isDrawn, isMove}
 use Rattle.flatten.specs.declared.Spot.{Spot}
-use Rattle.flatten.specs.Flatten.{nowhere, closes, movedTo, after, spot, body, writes, written, stops, onlyIf, endings, pointsOut, endsOut}
+use Rattle.flatten.specs.Flatten.{nowhere, closeAdds, movedTo, after, spot, body, writes, written, stops, onlyIf, endings, pointsOut, endsOut}
 use Rattle.flatten.specs.Polylines.{polylines, endToEnd, endsOf, Rising}
 use Rattle.flatten.specs.Subpaths.{subpathsFrom, subpaths, anyDrawn, withDrawn, markOf, marksOut}
 use Rattle.flatten.proofs.Lengths.{own}
@@ -45,7 +45,7 @@ module _ (tol : Float) where
   -- ---- a subpath with no drawn verb writes nothing; one with a drawn verb writes some point
 
   undrawn-writes : (w : Spot) (s : Segment) → isDrawn s ≡ false → w .drawn ≡ false → (writes tol w s ≡ []) × (after w s .drawn ≡ false)
-  unfolding writes body after closes
+  unfolding writes body after closeAdds
   undrawn-writes w (Move p) h e = (refl, refl)
   undrawn-writes w (Line p) h e = absurd (true≢false h)
   undrawn-writes w (Quad c p) h e = absurd (true≢false h)

@@ -18,7 +18,7 @@ use Rattle.path.specs.declared.Segment.the-variants.{Move, Line, Quad, Cubic, C
 use Rattle.path.specs.Segment.{isDrawn, endOf, segsFrom, segments}
 use Rattle.path.specs.Check.{badPath}
 use Rattle.flatten.specs.declared.Spot.{Spot}
-use Rattle.flatten.specs.Flatten.{drawnTo, after, closes, places, body, onlyIf, writes, written, endings, pointsOut, endsOut}
+use Rattle.flatten.specs.Flatten.{drawnTo, after, closeAdds, places, body, onlyIf, writes, written, endings, pointsOut, endsOut}
 use Rattle.flatten.specs.Polylines.{polylines, kept, lastOf, closing, sourceFrom, source}
 use Rattle.flatten.proofs.Lengths.{Own, own}
 use Rattle.flatten.proofs.Ends.{writes-drawn}
@@ -118,7 +118,7 @@ module _ (tol : Float) where
 
   -- a close: `closes` is the source's test
   a-close : (ss : List Segment) → Drawn ss → Drawn (Close ∷ ss)
-  unfolding written endings after writes closes body sourceFrom
+  unfolding written endings after writes closeAdds body sourceFrom
   a-close ss g a pen xs l n = go (sameAs a a && not (sameAs l a)) refl
     where
       go : (b : Bool) → (sameAs a a && not (sameAs l a)) ≡ b →
@@ -143,7 +143,7 @@ module _ (tol : Float) where
       ∙ sym (ap (λ (r : List (List Vec2)). r ++ sourceFrom tol (p ∷ []) p p ss) (kept-line a xs l)))
 
   agree : (ss : List Segment) → Undrawn ss × Drawn ss
-  unfolding written endings after writes closes body sourceFrom
+  unfolding written endings after writes closeAdds body sourceFrom
   agree [] = (λ a pen last n. refl, λ a pen xs l n. one-line n (line a xs l) [] [] ∙ sym (kept-line a xs l))
   agree (Move p ∷ ss) = let g = agree ss in (λ a pen last n. rw (add-zero n) (g .0 p p p n), a-move p ss (g .0))
   agree (Line p ∷ ss) = let g = agree ss in (begins (Line p) ss refl (g .1), goes-on (Line p) ss refl (g .1))

@@ -1,17 +1,17 @@
 -- The subpaths of a list are its parts, one behind the other. The marks, read in one pass, are those of the subpaths with a drawn verb, and depend on the
 -- verbs alone. Assumes nothing.
 use mathlib.Core.Path.{_≡_, refl, sym, ap, _∙_}
-use mathlib.Core.Bool.{Bool, true, false, _||_, cond, true≢false}
+use mathlib.Core.Bool.{Bool, true, false, _&&_, _||_, cond, true≢false}
 use mathlib.Core.List.{List, [], _∷_, _++_, append-assoc, append-nil, map}
-use Prim.Native.Nat.{ℕ, zero, suc}
-use lib.Ieee.{Float}
+use Prim.Native.Nat.{ℕ}
+use lib.Dec.{eqb}
 use Rattle.vec2.specs.declared.Vec2.{Vec2}
 use Rattle.path.specs.declared.Segment.{Segment}
 use Rattle.path.specs.declared.Segment.the-variants.{Move, Line, Quad, Cubic, Close}
-use Rattle.path.specs.Segment.{isDrawn, isMove, isClose, segments, segsFrom}
+use Rattle.path.specs.Segment.{isDrawn, isMove, isClose, bytesOf}
 use Rattle.flatten.specs.declared.Spot.{Spot}
-use Rattle.flatten.specs.Flatten.{nowhere, movedTo, after, onlyIf}
-use Rattle.flatten.specs.Steps.{marks}
+use Rattle.flatten.specs.Flatten.{nowhere, movedTo, drawnTo, afterClose, after, onlyIf}
+use Rattle.flatten.specs.Steps.{marksFrom}
 use Rattle.flatten.specs.Polylines.{endToEnd}
 use Rattle.flatten.specs.Subpaths.{subpathsFrom, subpaths, anyDrawn, withDrawn, isClosed, mark, markOf, marksOut, anyMove, Subpath, AllSubpaths}
 
@@ -120,36 +120,41 @@ mark-first part parts = go (anyDrawn part)
 
 -- of what is read of a subpath, the pass knows whether a drawn verb is in it, and whether its last verb is a close
 abbrev OnePass : List Segment → List Segment → List (List Segment) → Type 0
-OnePass part ss parts = (shut : Bool) (w : Spot) → w .drawn ≡ anyDrawn part → shut ≡ isClosed part → marks shut w ss ≡ map markOf (withDrawn parts)
+OnePass part ss parts = (shut : Bool) (w : Spot) → w .drawn ≡ anyDrawn part → shut ≡ isClosed part → marksFrom shut w ss ≡ map markOf (withDrawn parts)
 
 pass-end : (part : List Segment) → OnePass part [] (part ∷ [])
-unfolding marks withDrawn
+unfolding marksFrom withDrawn
 pass-end part shut w d c = rw (d, c) (sym (append-nil _) ∙ mark-first part [])
 
 pass-cut : (part : List Segment) (p : Vec2) (ss : List Segment) → OnePass (Move p ∷ []) ss (subpathsFrom (Move p ∷ []) ss) → OnePass part (Move p ∷ ss) (part ∷ subpathsFrom (Move p ∷ []) ss)
-unfolding marks after
+unfolding marksFrom after
 pass-cut part p ss h shut w d c =
     rw (d, c) (ap (λ (r : List ℕ). onlyIf (anyDrawn part) (markOf part) ++ r) (h false (movedTo p) refl refl) ∙ mark-first part (subpathsFrom (Move p ∷ []) ss))
 
 pass-on : (part : List Segment) (s : Segment) (ss : List Segment) → isMove s ≡ false →
     OnePass (part ++ s ∷ []) ss (subpathsFrom (part ++ s ∷ []) ss) → OnePass part (s ∷ ss) (subpathsFrom (part ++ s ∷ []) ss)
-unfolding marks
+unfolding marksFrom
 pass-on part s ss m h shut w d c = rw m (h (isClose s) (after w s) (drawn-more w part s m d) (sym (closed-more part s)))
 
-pub marks-are : (ss : List Segment) → marks false nowhere ss ≡ marksOut ss
+pub marks-are : (ss : List Segment) → marksFrom false nowhere ss ≡ marksOut ss
 unfolding marksOut
 marks-are ss = by-parts OnePass pass-end pass-cut pass-on ss [] false nowhere refl refl ∙ ap (map markOf) (drawn-parts ss)
 
 -- ---- they depend on the verbs alone
 
-pass-verbs : (vs : List ℕ) (fs gs : List Float) (k j : ℕ) (shut : Bool) (w v : Spot) → w .drawn ≡ v .drawn → marks shut w (segsFrom vs fs k) ≡ marks shut v (segsFrom vs gs j)
-unfolding marks after
-pass-verbs [] fs gs k j shut w v e = rw e
-pass-verbs (zero ∷ vs) fs gs k j shut w v e = rw e (ap (λ (r : List ℕ). onlyIf (v .drawn) (mark shut) ++ r) (pass-verbs vs fs gs _ _ false _ _ refl))
-pass-verbs (suc zero ∷ vs) fs gs k j shut w v e = pass-verbs vs fs gs _ _ false _ _ refl
-pass-verbs (suc (suc zero) ∷ vs) fs gs k j shut w v e = pass-verbs vs fs gs _ _ false _ _ refl
-pass-verbs (suc (suc (suc zero)) ∷ vs) fs gs k j shut w v e = pass-verbs vs fs gs _ _ false _ _ refl
-pass-verbs (suc (suc (suc (suc n))) ∷ vs) fs gs k j shut w v e = pass-verbs vs fs gs _ _ true _ _ e
+-- the same pass over the verbs' bytes
+abbrev byVerbs : Bool → Bool → List ℕ → List ℕ
+byVerbs shut drawn [] = onlyIf drawn (mark shut)
+byVerbs shut drawn (v ∷ vs) = onlyIf (eqb v 0 && drawn) (mark shut) ++ byVerbs (eqb v 4) (cond (eqb v 0) false (cond (eqb v 4) drawn true)) vs
 
-pub marks-verbs : (vs : List ℕ) (fs gs : List Float) → marksOut (segments vs fs) ≡ marksOut (segments vs gs)
-marks-verbs vs fs gs = sym (marks-are (segments vs fs)) ∙ pass-verbs vs fs gs 0 0 false nowhere nowhere refl ∙ marks-are (segments vs gs)
+pass-verbs : (ss : List Segment) (shut : Bool) (w : Spot) → marksFrom shut w ss ≡ byVerbs shut (w .drawn) (bytesOf ss)
+unfolding marksFrom after
+pass-verbs [] shut w = refl
+pass-verbs (Move p ∷ ss) shut w = ap (λ (r : List ℕ). onlyIf (w .drawn) (mark shut) ++ r) (pass-verbs ss false (movedTo p))
+pass-verbs (Line p ∷ ss) shut w = pass-verbs ss false (drawnTo w p)
+pass-verbs (Quad c p ∷ ss) shut w = pass-verbs ss false (drawnTo w p)
+pass-verbs (Cubic c d p ∷ ss) shut w = pass-verbs ss false (drawnTo w p)
+pass-verbs (Close ∷ ss) shut w = pass-verbs ss true (afterClose w)
+
+pub marks-verbs : (ss us : List Segment) → bytesOf ss ≡ bytesOf us → marksOut ss ≡ marksOut us
+marks-verbs ss us e = sym (marks-are ss) ∙ pass-verbs ss false nowhere ∙ ap (byVerbs false false) e ∙ sym (pass-verbs us false nowhere) ∙ marks-are us

@@ -21,8 +21,8 @@ use Rattle.float.specs.Count.{segmentAnswer}
 use Rattle.curve.specs.Count.{quadS, cubicS, quadCount, cubicCount, evalQuad, evalCubic, param}
 use Rattle.curve.proofs.Numbers.{counted}
 use Rattle.flatten.specs.declared.Spot.{Spot}
-use Rattle.flatten.specs.Flatten.{movedTo, drawnTo, closes, closed, after, stops, onlyIf, places, steps, curved, body, writes, written, endings, pointsOut, endsOut}
-use Rattle.flatten.specs.Steps.{begun, quadPoints, cubicPoints, Wrote, marks, Ended}
+use Rattle.flatten.specs.Flatten.{movedTo, drawnTo, closeAdds, afterClose, after, stops, onlyIf, places, steps, curved, body, writes, written, endings, pointsOut, endsOut}
+use Rattle.flatten.specs.Steps.{begun, quadPoints, cubicPoints, Wrote, marksFrom, Ended}
 use Rattle.flatten.specs.Subpaths.{mark, marksOut}
 use Rattle.flatten.proofs.Points.{length-steps}
 use Rattle.flatten.proofs.Lengths.{length-onlyIf}
@@ -88,7 +88,7 @@ module _ (tol : Float) (w : Spot) (s : Segment) where
   unfolding writes body places
   as-cubic c d p e = rw e (append-nil _)
 
-  pub as-close : (b : Bool) → s ≡ Close → b ≡ closes w → writes tol w s ≡ onlyIf b (w .start)
+  pub as-close : (b : Bool) → s ≡ Close → b ≡ closeAdds w → writes tol w s ≡ onlyIf b (w .start)
   unfolding writes body
   as-close b e h = rw (e, h)
 
@@ -109,7 +109,7 @@ module _ (tol : Float) (w : Spot) (s : Segment) where
   unfolding after
   to-cubic c d p e h = rw e h
 
-  pub to-close : s ≡ Close → {r : Spot} → r ≡ closed w → r ≡ after w s
+  pub to-close : s ≡ Close → {r : Spot} → r ≡ afterClose w → r ≡ after w s
   unfolding after
   to-close e h = rw e h
 
@@ -125,10 +125,10 @@ pub record Writing (vs : List ℕ) (fs : List Float) (tol : Float) (out₀ : Lis
   pub same-marks : length flags ≡ length ms₀
   pub room : 2 * (n + length (written tol w (left vs fs i k))) ≤ length out₀
   pub room-ends : m + length (endings tol n w (left vs fs i k)) ≤ length es₀
-  pub room-marks : m + length (endings tol n w (left vs fs i k)) ≤ length ms₀
+  pub room-marks : m + length (marksFrom shut w (left vs fs i k)) ≤ length ms₀
   pub points : sets out (2 * n) (flat (written tol w (left vs fs i k))) ≡ sets out₀ 0 (flat (pointsOut tol (segments vs fs)))
   pub polys : sets ends m (endings tol n w (left vs fs i k)) ≡ sets es₀ 0 (endsOut tol (segments vs fs))
-  pub marked : sets flags m (marks shut w (left vs fs i k)) ≡ sets ms₀ 0 (marksOut (segments vs fs))
+  pub marked : sets flags m (marksFrom shut w (left vs fs i k)) ≡ sets ms₀ 0 (marksOut (segments vs fs))
 
 module _ {vs : List ℕ} {fs : List Float} {tol : Float} {out₀ : List Float} {es₀ ms₀ : List ℕ} {w : Spot} {i k n m : ℕ} {shut : Bool} {out : List Float} {ends flags : List ℕ}
     (g : Writing vs fs tol out₀ es₀ ms₀ w i k n m shut out ends flags) where
@@ -142,8 +142,8 @@ module _ {vs : List ℕ} {fs : List Float} {tol : Float} {out₀ : List Float} {
     unfolding endings
     next-endings = rw (next-left vs fs i k h, es)
 
-    next-marks : marks shut w (left vs fs i k) ≡ onlyIf (stops w s) (mark shut) ++ marks (isClose s) (after w s) (left vs fs (suc i) (k + used (getD vs i 0)))
-    unfolding marks
+    next-marks : marksFrom shut w (left vs fs i k) ≡ onlyIf (stops w s) (mark shut) ++ marksFrom (isClose s) (after w s) (left vs fs (suc i) (k + used (getD vs i 0)))
+    unfolding marksFrom
     next-marks = rw (next-left vs fs i k h, es)
 
     pub turn-reads : 2 * (k + used (getD vs i 0)) ≤ length fs
@@ -152,10 +152,14 @@ module _ {vs : List ℕ} {fs : List Float} {tol : Float} {out₀ : List Float} {
     pub turn-room : 2 * (n + length (writes tol w s)) ≤ length out
     turn-room = omega (arith, g .room, g .same-out, simp length-append at (ap length next-written))
 
+    -- an end and its mark come together
+    same-many : length (onlyIf (stops w s) (mark shut)) ≡ length (onlyIf (stops w s) n)
+    same-many = length-onlyIf (stops w s) (mark shut) ∙ sym (length-onlyIf (stops w s) n)
+
     pub turn-ends : (b : Bool) → b ≡ stops w s → (m + length (onlyIf b n) ≤ length ends) × (m + length (onlyIf b n) ≤ length flags)
     turn-ends b e = rw e (
       omega (arith, g .room-ends, g .same-ends, simp length-append at (ap length next-endings)),
-      omega (arith, g .room-marks, g .same-marks, simp length-append at (ap length next-endings)),
+      omega (arith, g .room-marks, g .same-marks, same-many, simp length-append at (ap length next-marks)),
     )
 
     pub turn : (b : Bool) → b ≡ stops w s → {es' ms' : List ℕ} {m' : ℕ} → Ended ends es' flags ms' m m' b n (mark shut) →
@@ -163,23 +167,23 @@ module _ {vs : List ℕ} {fs : List Float} {tol : Float} {out₀ : List Float} {
         (v : Spot) → v ≡ after w s → (shut' : Bool) → shut' ≡ isClose s → (u : ℕ) → u ≡ used (getD vs i 0) → Writing vs fs tol out₀ es₀ ms₀ v (i + 1) (k + u) n' m' shut' out' es' ms'
     turn b eb {es'} {ms'} {m'} e {out'} {n'} p v ev shut' ec u eu =
         let f : 2 * n + length (flat (writes tol w s)) ≡ 2 * (n + length (writes tol w s)) = omega (arith, length-flat (writes tol w s)) in
-        let l : m + length (onlyIf (stops w s) (mark shut)) ≡ m + length (onlyIf (stops w s) n) = ap (λ (x : ℕ). m + x) (length-onlyIf (stops w s) (mark shut) ∙ sym (length-onlyIf (stops w s) n)) in
+        let l : m + length (onlyIf (stops w s) (mark shut)) ≡ m + length (onlyIf (stops w s) n) = ap (λ (x : ℕ). m + x) same-many in
         record {
           here = omega arith;
           reads = omega (arith, g .reads, used-turn vs i h);
           same-out = ap length (p .stored) ∙ simp length-sets (g .same-out);
-          same-ends = ap length (e .stored) ∙ simp length-sets (g .same-ends);
-          same-marks = ap length (e .marks) ∙ simp length-sets (g .same-marks);
+          same-ends = ap length (e .ended) ∙ simp length-sets (g .same-ends);
+          same-marks = ap length (e .marked) ∙ simp length-sets (g .same-marks);
           room = rw (ev, eu, add-one i) (omega (arith, g .room, p .moved, simp length-append at (ap length next-written)));
           room-ends =
               rw (ev, eu, add-one i, p .moved)
               (omega (arith, g .room-ends, rw eb at (e .moved), simp length-append at (ap length next-endings)));
           room-marks =
-              rw (ev, eu, add-one i, p .moved)
-              (omega (arith, g .room-marks, rw eb at (e .moved), simp length-append at (ap length next-endings)));
+              rw (ev, ec, eu, add-one i)
+              (omega (arith, g .room-marks, rw eb at (e .moved), same-many, simp length-append at (ap length next-marks)));
           points = rw (ev, eu, add-one i, p .moved, p .stored, ← f, ← sets-append, ← flat-append, ← next-written) (g .points);
-          polys = rw (ev, eu, add-one i, p .moved, e .moved, e .stored, eb, ← sets-append, ← next-endings) (g .polys);
-          marked = rw (ev, ec, eu, add-one i, e .moved, e .marks, eb, ← l, ← sets-append, ← next-marks) (g .marked);
+          polys = rw (ev, eu, add-one i, p .moved, e .moved, e .ended, eb, ← sets-append, ← next-endings) (g .polys);
+          marked = rw (ev, ec, eu, add-one i, e .moved, e .marked, eb, ← l, ← sets-append, ← next-marks) (g .marked);
         }
 
   module _ (h : length vs ≤ i) where
@@ -191,19 +195,19 @@ module _ {vs : List ℕ} {fs : List Float} {tol : Float} {out₀ : List Float} {
     unfolding endings
     last-ending = rw (drop-of-length-le vs h)
 
-    last-mark : marks shut w (left vs fs i k) ≡ onlyIf (w .drawn) (mark shut)
-    unfolding marks
+    last-mark : marksFrom shut w (left vs fs i k) ≡ onlyIf (w .drawn) (mark shut)
+    unfolding marksFrom
     last-mark = rw (drop-of-length-le vs h)
 
     pub last-room : (m + length (onlyIf (w .drawn) n) ≤ length ends) × (m + length (onlyIf (w .drawn) n) ≤ length flags)
-    last-room = (omega (arith, g .room-ends, g .same-ends, ap length last-ending), omega (arith, g .room-marks, g .same-marks, ap length last-ending))
+    last-room = (omega (arith, g .room-ends, g .same-ends, ap length last-ending), omega (arith, g .room-marks, g .same-marks, length-onlyIf (w .drawn) (mark shut), length-onlyIf (w .drawn) n, ap length last-mark))
 
     pub last-points : out ≡ sets out₀ 0 (flat (pointsOut tol (segments vs fs)))
     last-points = rw none-written at (g .points)
 
     module _ {es' ms' : List ℕ} {m' : ℕ} (e : Ended ends es' flags ms' m m' (w .drawn) n (mark shut)) where
       pub last-ends : es' ≡ sets es₀ 0 (endsOut tol (segments vs fs))
-      last-ends = e .stored ∙ rw last-ending at (g .polys)
+      last-ends = e .ended ∙ rw last-ending at (g .polys)
 
       pub last-marks : ms' ≡ sets ms₀ 0 (marksOut (segments vs fs))
-      last-marks = e .marks ∙ rw last-mark at (g .marked)
+      last-marks = e .marked ∙ rw last-mark at (g .marked)

@@ -32,8 +32,8 @@ abbrev pub first : Spot → Vec2
 first w = w .start
 
 -- close writes the move's point exactly when the polyline has two or more points, its first equals the move's point and its last doesn't
-unfoldable pub closes : Spot → Bool
-closes w = w .drawn && sameAs (first w) (w .start) && not (sameAs (w .last) (w .start))
+unfoldable pub closeAdds : Spot → Bool
+closeAdds w = w .drawn && sameAs (first w) (w .start) && not (sameAs (w .last) (w .start))
 
 abbrev pub movedTo : Vec2 → Spot
 movedTo p = record { start = p; pen = p; last = p; drawn = false }
@@ -41,15 +41,15 @@ movedTo p = record { start = p; pen = p; last = p; drawn = false }
 abbrev pub drawnTo : Spot → Vec2 → Spot
 drawnTo w p = record { start = w .start; pen = p; last = p; drawn = true }
 
-abbrev pub closed : Spot → Spot
-closed w = record { start = w .start; pen = w .start; last = cond (closes w) (w .start) (w .last); drawn = w .drawn }
+abbrev pub afterClose : Spot → Spot
+afterClose w = record { start = w .start; pen = w .start; last = cond (closeAdds w) (w .start) (w .last); drawn = w .drawn }
 
 unfoldable pub after : Spot → Segment → Spot
 after w (Move p) = movedTo p
 after w (Line p) = drawnTo w p
 after w (Quad c p) = drawnTo w p
 after w (Cubic c d p) = drawnTo w p
-after w Close = closed w
+after w Close = afterClose w
 
 unfoldable pub spot : Spot → List Segment → Spot
 spot w [] = w
@@ -94,7 +94,7 @@ abbrev pub opens : Spot → Segment → Bool
 opens w s = isDrawn s && not (w .drawn)
 
 abbrev pub adds : Spot → Segment → Bool
-adds w s = isClose s && closes w
+adds w s = isClose s && closeAdds w
 
 abbrev pub onlyIf : {A : Type 0} → Bool → A → List A
 onlyIf true p = p ∷ []
@@ -175,11 +175,11 @@ told tol ss =
 
 -- 1 for an output with an odd number of floats comes with the path's own 1; 3, for the points, the ends or the marks (W4), comes last
 unfoldable pub flatRefusal : List ℕ → List Float → Float → List Float → List ℕ → List ℕ → ℕ
-flatRefusal vs fs tol out es ms =
+flatRefusal vs fs tol out ends marks =
     let ss = segments vs fs in
     cond (eqb (length out % 2) 1) 1
     (cond (not (eqb (badPath vs fs) 0)) (badPath vs fs)
-    (cond (ltb (length out / 2) (length (pointsOut tol ss)) || (ltb (length es) (length (endsOut tol ss)) || ltb (length ms) (length (marksOut ss)))) 3 0))
+    (cond (ltb (length out / 2) (length (pointsOut tol ss)) || (ltb (length ends) (length (endsOut tol ss)) || ltb (length marks) (length (marksOut ss)))) 3 0))
 
 -- the entire reply and the three lent outputs
 pub record Outcome : Type 0 where
@@ -196,11 +196,11 @@ refusedBy n = record { points = 0; polylines = 0; starts = 0; lines = 0; counts 
 
 -- by the refusal's number
 abbrev pub replied : ℕ → Float → List Segment → List Float → List ℕ → List ℕ → Outcome
-replied zero tol ss out es ms = outcome (told tol ss) (sets out 0 (flat (pointsOut tol ss))) (sets es 0 (endsOut tol ss)) (sets ms 0 (marksOut ss))
-replied (suc n) tol ss out es ms = outcome (refusedBy (suc n)) out es ms
+replied zero tol ss out ends marks = outcome (told tol ss) (sets out 0 (flat (pointsOut tol ss))) (sets ends 0 (endsOut tol ss)) (sets marks 0 (marksOut ss))
+replied (suc n) tol ss out ends marks = outcome (refusedBy (suc n)) out ends marks
 
 unfoldable pub flatten : List ℕ → List Float → Float → List Float → List ℕ → List ℕ → Outcome
-flatten vs fs tol out es ms = replied (flatRefusal vs fs tol out es ms) tol (segments vs fs) out es ms
+flatten vs fs tol out ends marks = replied (flatRefusal vs fs tol out ends marks) tol (segments vs fs) out ends marks
 
 -- ---- a carried count
 

@@ -3,3 +3,4 @@ pub mod Flatten
 pub mod Polylines
 pub mod Kept
 pub mod Steps
+pub mod Laws

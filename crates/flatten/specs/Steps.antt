@@ -1,4 +1,5 @@
--- What the inner functions promise: the measuring pass, and points, ends and marks stored one behind the other. Definitions only.
+-- What the inner functions promise: the measuring pass, and points, ends and marks stored one behind the other; and the one pass by which the marks are read.
+-- Definitions only.
 use mathlib.Core.Path.{_≡_}
 use Prim.Native.Nat.{ℕ, _+_, _*_, _≤_}
 use mathlib.Core.Bool.{Bool, not}
@@ -15,7 +16,7 @@ use Rattle.flatten.specs.declared.Spot.{Spot}
 use Rattle.flatten.specs.declared.Tally.{Tally}
 use Rattle.flatten.specs.declared.Gauge.{Gauge}
 use Rattle.flatten.specs.Subpaths.{mark}
-use Rattle.flatten.specs.Flatten.{drawnTo, closes, closed, after, stops, one, opens, adds, onlyIf, curved, curveCount, isHeld}
+use Rattle.flatten.specs.Flatten.{drawnTo, closeAdds, afterClose, after, stops, one, opens, adds, onlyIf, curved, curveCount, isHeld}
 
 -- ---- the measuring pass
 
@@ -56,10 +57,10 @@ closedMore g =
             starts = g .sum .starts;
             lines = g .sum .lines;
             counts = g .sum .counts;
-            closings = g .sum .closings + one (closes (g .spot));
+            closings = g .sum .closings + one (closeAdds (g .spot));
             held = g .sum .held;
           };
-      spot = closed (g .spot);
+      spot = afterClose (g .spot);
     }
 
 abbrev pub gauged : Float → Segment → Gauge → Gauge
@@ -96,12 +97,12 @@ pub record Wrote (before left : List Float) (at next : ℕ) (ps : List Vec2) : T
   pub moved : next ≡ at + length ps
 
 -- the marks (W4), read in one pass: `shut` says whether the verb read last is a close
-unfoldable pub marks : Bool → Spot → List Segment → List ℕ
-marks shut w [] = onlyIf (w .drawn) (mark shut)
-marks shut w (s ∷ ss) = onlyIf (stops w s) (mark shut) ++ marks (isClose s) (after w s) ss
+unfoldable pub marksFrom : Bool → Spot → List Segment → List ℕ
+marksFrom shut w [] = onlyIf (w .drawn) (mark shut)
+marksFrom shut w (s ∷ ss) = onlyIf (stops w s) (mark shut) ++ marksFrom (isClose s) (after w s) ss
 
--- an end and its mark stored at place `at`, if one is wanted, and the place behind them
-pub record Ended (before left marked noted : List ℕ) (at next : ℕ) (wanted : Bool) (n m : ℕ) : Type 0 where
-  pub stored : left ≡ sets before at (onlyIf wanted n)
-  pub marks : noted ≡ sets marked at (onlyIf wanted m)
+-- an end and its mark stored at place `at`, if they are wanted, and the place behind them
+pub record Ended (ends ends' marks marks' : List ℕ) (at next : ℕ) (wanted : Bool) (n m : ℕ) : Type 0 where
+  pub ended : ends' ≡ sets ends at (onlyIf wanted n)
+  pub marked : marks' ≡ sets marks at (onlyIf wanted m)
   pub moved : next ≡ at + length (onlyIf wanted n)

@@ -9,7 +9,7 @@ ghost use Rattle.path.specs.Segment.{isClose, segments};
 ghost use Rattle.path.specs.Check.{usedBy};
 ghost use Rattle.curve.specs.Count.{evalQuad, evalCubic};
 ghost use Rattle.flatten.specs.Subpaths.{mark, marksOut};
-ghost use Rattle.flatten.specs.Flatten.{nowhere, closes, movedTo, drawnTo, closed, after, stops, one, onlyIf, curveAnswer, curved, writes, pointsOut, endsOut, outcome, refusedBy, flatten, noCount, countAt, carriedCount};
+ghost use Rattle.flatten.specs.Flatten.{nowhere, closeAdds, movedTo, drawnTo, afterClose, after, stops, one, onlyIf, curveAnswer, curved, writes, pointsOut, endsOut, outcome, refusedBy, flatten, noCount, countAt, carriedCount};
 ghost use Rattle.flatten.specs.Steps.{none, drawnMore, closedMore, gauged, measured, Small, begun, quadPoints, cubicPoints, Wrote, Ended};
 use float::SegmentCount;
 use path::Cursor;
@@ -62,10 +62,11 @@ pub struct Gauge {
     pub spot: Spot,
 }
 
-// How far the writing is: the points that are written, and where the flattening stands.
+// How far the writing is: the points that are written, where the flattening stands, and whether the verb read last is a close.
 pub struct Trace {
     pub at: usize,
     pub spot: Spot,
+    pub shut: bool,
 }
 
 // ---- where a flattening stands
@@ -84,7 +85,7 @@ fn start_of_path() -> Spot
 
 // Whether a close writes the move's point. A start that is a NaN equals nothing, itself included.
 fn close_adds(w: Spot) -> bool
-    ensures { λ r. ⌜ r ≡ closes w ⌝ }
+    ensures { λ r. ⌜ r ≡ closeAdds w ⌝ }
 {
     let start = w.start;
     let last = w.last;
@@ -121,7 +122,7 @@ fn drawn_to(w: Spot, p: Vec2) -> Spot
 }
 
 fn close(w: Spot) -> Spot
-    ensures { λ r. ⌜ r ≡ closed w ⌝ }
+    ensures { λ r. ⌜ r ≡ afterClose w ⌝ }
 {
     let start = w.start;
     let mut last = w.last;
@@ -391,22 +392,24 @@ fn draw_cubic(
     a + n as usize
 }
 
-// Writes what a segment writes from point `at` on. Points and place go by one `match`, as in measuring.
+// Writes what a segment writes from point `at` on. Points, place and close go by one `match`, as in measuring.
 fn write_segment(out: &mut [f32], at: usize, tolerance: f32, w: Spot, s: Segment) -> Trace
     requires { ⌜ 2 * (at + length (writes tolerance w s)) ≤ length (now out) ⌝ }
-    ensures { λ r. ⌜ Wrote (now (out .entry)) (now (out .exit)) at (r .at) (writes tolerance w s) × (r .spot ≡ after w s) ⌝ }
+    ensures { λ r. ⌜ Wrote (now (out .entry)) (now (out .exit)) at (r .at) (writes tolerance w s) × (r .spot ≡ after w s) × (r .shut ≡ isClose s) ⌝ }
 {
     let start = w.start;
     match s {
         Segment::Move(p) => Trace {
             at,
             spot: move_to(p),
+            shut: false,
         },
         Segment::Line(p) => {
             let n = draw_line(out, at, w, p);
             Trace {
                 at: n,
                 spot: drawn_to(w, p),
+                shut: false,
             }
         }
         Segment::Quad(c, p) => {
@@ -414,6 +417,7 @@ fn write_segment(out: &mut [f32], at: usize, tolerance: f32, w: Spot, s: Segment
             Trace {
                 at: n,
                 spot: drawn_to(w, p),
+                shut: false,
             }
         }
         Segment::Cubic(c, d, p) => {
@@ -421,6 +425,7 @@ fn write_segment(out: &mut [f32], at: usize, tolerance: f32, w: Spot, s: Segment
             Trace {
                 at: n,
                 spot: drawn_to(w, p),
+                shut: false,
             }
         }
         Segment::Close => {
@@ -429,24 +434,13 @@ fn write_segment(out: &mut [f32], at: usize, tolerance: f32, w: Spot, s: Segment
             Trace {
                 at: n,
                 spot: close(w),
+                shut: true,
             }
         }
     }
 }
 
-fn is_close(s: Segment) -> bool
-    ensures { λ r. ⌜ r ≡ isClose s ⌝ }
-{
-    match s {
-        Segment::Move(_) => false,
-        Segment::Line(_) => false,
-        Segment::Quad(_, _) => false,
-        Segment::Cubic(_, _, _) => false,
-        Segment::Close => true,
-    }
-}
-
-// The byte of a polyline whose last verb is a close, or isn't.
+// A polyline's mark, by whether the last verb of its subpath is a close.
 fn mark(shut: bool) -> u8
     ensures { λ r. ⌜ r ≡ mark shut ⌝ }
 {
@@ -457,20 +451,20 @@ fn mark(shut: bool) -> u8
 fn end_if(
     ends: &mut [usize],
     marks: &mut [u8],
-    m: usize,
+    k: usize,
     wanted: bool,
     n: usize,
     shut: bool,
 ) -> usize
-    requires { ⌜ (m + length (onlyIf wanted n) ≤ length (now ends)) × (m + length (onlyIf wanted n) ≤ length (now marks)) ⌝ }
-    ensures { λ r. ⌜ Ended (now (ends .entry)) (now (ends .exit)) (now (marks .entry)) (now (marks .exit)) m r wanted n (mark shut) ⌝ }
+    requires { ⌜ (k + length (onlyIf wanted n) ≤ length (now ends)) × (k + length (onlyIf wanted n) ≤ length (now marks)) ⌝ }
+    ensures { λ r. ⌜ Ended (now (ends .entry)) (now (ends .exit)) (now (marks .entry)) (now (marks .exit)) k r wanted n (mark shut) ⌝ }
 {
     if wanted {
-        ends[m] = n;
-        marks[m] = mark(shut);
-        return m + 1;
+        ends[k] = n;
+        marks[k] = mark(shut);
+        return k + 1;
     }
-    m
+    k
 }
 
 // Writes a whole path.
@@ -483,7 +477,7 @@ fn write_path(
     marks: &mut [u8],
 )
     requires { ⌜ (2 * usedBy (now verbs) ≤ length (now points)) × (2 * length (pointsOut tolerance (segments (now verbs) (now points))) ≤ length (now out))
-        × (length (endsOut tolerance (segments (now verbs) (now points))) ≤ length (now ends)) × (length (endsOut tolerance (segments (now verbs) (now points))) ≤ length (now marks)) ⌝ }
+        × (length (endsOut tolerance (segments (now verbs) (now points))) ≤ length (now ends)) × (length (marksOut (segments (now verbs) (now points))) ≤ length (now marks)) ⌝ }
     ensures { λ r. ⌜ (now (out .exit) ≡ sets (now (out .entry)) 0 (flat (pointsOut tolerance (segments (now (verbs .entry)) (now (points .entry))))))
         × (now (ends .exit) ≡ sets (now (ends .entry)) 0 (endsOut tolerance (segments (now (verbs .entry)) (now (points .entry)))))
         × (now (marks .exit) ≡ sets (now (marks .entry)) 0 (marksOut (segments (now (verbs .entry)) (now (points .entry))))) ⌝ }
@@ -491,20 +485,20 @@ fn write_path(
     let mut w = start_of_path();
     let mut c = Cursor { verb: 0, point: 0 };
     let mut at: usize = 0;
-    let mut m: usize = 0;
+    let mut k: usize = 0;
     let mut shut = false;
     loop {
         let step = path::next(verbs, points, c);
         let Step::Next(s, d) = step else {
-            end_if(ends, marks, m, w.drawn, at, shut);
+            end_if(ends, marks, k, w.drawn, at, shut);
             return;
         };
         let stopped = ends_polyline(w, s);
-        m = end_if(ends, marks, m, stopped, at, shut);
+        k = end_if(ends, marks, k, stopped, at, shut);
         let r = write_segment(out, at, tolerance, w, s);
         at = r.at;
         w = r.spot;
-        shut = is_close(s);
+        shut = r.shut;
         c = d;
     }
 }

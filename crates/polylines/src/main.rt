@@ -82,7 +82,8 @@ fn quad_of_five() -> bool {
         7.0,
         7.0,
     ];
-    totals(r, 1, 1, 0, 5, 1) && r.points == 7 && equal(&out, &want) && ends[0] == 7 && ends[1] == 99
+    let lone = ends[0] == 7 && ends[1] == 99 && marks[0] == 1 && marks[1] == 9;
+    totals(r, 1, 1, 0, 5, 1) && r.points == 7 && equal(&out, &want) && lone
 }
 
 fn cubic_of_nine() -> bool {
@@ -113,7 +114,11 @@ fn cubic_of_nine() -> bool {
         16.0,
         0.0,
     ];
-    totals(r, 1, 1, 0, 9, 0) && r.points == 10 && equal(&out, &want) && ends[0] == 10
+    totals(r, 1, 1, 0, 9, 0)
+        && r.points == 10
+        && equal(&out, &want)
+        && ends[0] == 10
+        && marks[0] == 0
 }
 
 fn counts() -> bool {
@@ -191,7 +196,7 @@ fn held_back() -> bool {
     let mut ends = [99usize; 1];
     let mut marks = [9u8; 1];
     let r = flatten::flatten(&[0, 2, 2], &points, TIGHT, &mut out, &mut ends, &mut marks);
-    r.counts == 2000 && r.held == 1 && r.refused == 0 && ends[0] == 2001
+    r.counts == 2000 && r.held == 1 && r.refused == 0 && ends[0] == 2001 && marks[0] == 0
 }
 
 // A quad held back in each of two polylines, with a line behind the second.
@@ -223,7 +228,8 @@ fn two_held_back() -> bool {
         &mut ends,
         &mut marks,
     );
-    r.counts == 2000 && r.held == 2 && r.refused == 0 && ends[0] == 1001 && ends[1] == 2003
+    let placed = ends[0] == 1001 && ends[1] == 2003 && marks[0] == 0 && marks[1] == 0;
+    r.counts == 2000 && r.held == 2 && r.refused == 0 && placed
 }
 
 // One point short: a refusal says 0.
@@ -233,7 +239,7 @@ fn held_and_refused() -> bool {
     let mut ends = [99usize; 1];
     let mut marks = [9u8; 1];
     let r = flatten::flatten(&[0, 2, 2], &points, TIGHT, &mut out, &mut ends, &mut marks);
-    r.counts == 0 && r.held == 0 && r.refused == 3 && ends[0] == 99
+    r.counts == 0 && r.held == 0 && r.refused == 3 && ends[0] == 99 && marks[0] == 9
 }
 
 // Which curve is held back, asked verb by verb: the second, and nothing else.

@@ -42,7 +42,7 @@ loop-holds c =
       same-marks = refl;
       room = simp zero-add (omega arith);
       room-ends = simp zero-add (omega arith);
-      room-marks = simp zero-add (omega arith);
+      room-marks = simp zero-add (omega (arith, ap length (marks-are (segments (a .verbs .now) (a .points .now)))));
       points = refl;
       polys = refl;
       marked = ap (sets (a .marks .now) 0) (marks-are (segments (a .verbs .now) (a .points .now)));
@@ -85,18 +85,15 @@ end-if-requires-2 c κs = let g = here (c .before .before .before) in turn-ends 
 write-segment-requires : tie.Need-write-segment-requires Inv-loop μ-loop
 write-segment-requires c κs = let g = here (c .before .before .before .before .before .before .before .before .before) in turn-room (c .before .before .before .before .before .before .before .before .before .before .before .before .before .loop .inv) (g .inside) _ (g .segment)
 
-is-close-requires : tie.Need-is-close-requires Inv-loop μ-loop
-is-close-requires c κs = search needs
-
 loop-less : tie.Need-loop-less Inv-loop μ-loop
-loop-less c = let g = here (c .before .before .before .before .before .before .before .before .before .before .before .before .before .before) in rw (g .cursor) (omega (arith, g .inside))
+loop-less c = let g = here (c .before .before .before .before .before .before .before .before .before .before .before .before .before) in rw (g .cursor) (omega (arith, g .inside))
 
 loop-again : tie.Need-loop-again Inv-loop μ-loop
 loop-again c =
-    let g = here (c .before .before .before .before .before .before .before .before .before .before .before .before .before .before) in
+    let g = here (c .before .before .before .before .before .before .before .before .before .before .before .before .before) in
     rw (g .cursor)
-    (turn (c .before .before .before .before .before .before .before .before .before .before .before .before .before .before .before .before .before .before .loop .inv) (g .inside) _ (g .segment) _ (c .before .before .before .before .before .before .before .before .before .before .before .before .before .ends-polyline .ensures) (c .before .before .before .before .before .before .before .before .before .before .end-if2 .ensures)
-    (c .before .before .before .before .write-segment .ensures .0) _ (c .before .before .before .before .write-segment .ensures .1) _ (c .is-close .ensures) _ refl)
+    (turn (c .before .before .before .before .before .before .before .before .before .before .before .before .before .before .before .before .before .loop .inv) (g .inside) _ (g .segment) _ (c .before .before .before .before .before .before .before .before .before .before .before .before .ends-polyline .ensures) (c .before .before .before .before .before .before .before .before .before .end-if2 .ensures)
+    (c .before .before .before .write-segment .ensures .0) _ (c .before .before .before .write-segment .ensures .1) _ (c .before .before .before .write-segment .ensures .2) _ refl)
 
 pub write-path-spec : {M : Type 1} → statement M
 write-path-spec =
@@ -117,6 +114,5 @@ write-path-spec =
     ends-polyline-requires
     end-if-requires-2
     write-segment-requires
-    is-close-requires
     loop-less
     loop-again)

@@ -1,0 +1,36 @@
+-- W4: what holds of the subpaths of any list of segments, of its flattening at any tolerance, and of the marks. Definitions only.
+use mathlib.Core.Path.{_≡_}
+use mathlib.Core.Bool.{Bool, true, false}
+use mathlib.Core.List.{List, [], _∷_, map}
+use lib.ListN.{length}
+use lib.Ieee.{Float}
+use Rattle.path.specs.declared.Segment.{Segment}
+use Rattle.path.specs.Segment.{isMove, bytesOf}
+use Rattle.flatten.specs.Flatten.{nowhere, pointsOut, endsOut}
+use Rattle.flatten.specs.Polylines as poly
+use Rattle.flatten.specs.Polylines.{endToEnd, endsOf, Rising}
+use Rattle.flatten.specs.Steps.{marksFrom}
+use Rattle.flatten.specs.Subpaths.{subpaths, withDrawn, AllSubpaths, marksOut}
+
+-- as a path that isn't refused does
+abbrev pub beginsWithMove : List Segment → Bool
+beginsWithMove [] = true
+beginsWithMove (s ∷ ss) = isMove s
+
+pub record SubpathLaws (tol : Float) (ss : List Segment) : Type 0 where
+  -- end to end the subpaths are the list, and each is a move with no other behind it
+  pub whole : endToEnd (subpaths ss) ≡ ss
+  pub moves : beginsWithMove ss ≡ true → AllSubpaths (subpaths ss)
+  -- flattening the list is flattening its subpaths, end to end
+  pub points : pointsOut tol ss ≡ endToEnd (map (pointsOut tol) (subpaths ss))
+  -- one polyline for each with a drawn verb, and no other
+  pub ends : endsOut tol ss ≡ endsOf 0 (map (pointsOut tol) (withDrawn (subpaths ss)))
+  pub polylines : poly.polylines 0 (pointsOut tol ss) (endsOut tol ss) ≡ map (pointsOut tol) (withDrawn (subpaths ss))
+  -- the ends rise strictly, from above 0 to the number of points
+  pub rise : Rising 0 (endsOut tol ss) (length (pointsOut tol ss))
+  -- there are as many marks as ends
+  pub many : length (marksOut ss) ≡ length (endsOut tol ss)
+  -- the marks depend on the verbs alone
+  pub verbs : (us : List Segment) → bytesOf ss ≡ bytesOf us → marksOut ss ≡ marksOut us
+  -- and one pass reads them
+  pub one-pass : marksOut ss ≡ marksFrom false nowhere ss
