@@ -471,15 +471,15 @@ impl Flat {
             seen(what);
         }
     }
-    /// Ends a subpath, with a mark for each of its points that is computed: it is the source's next polyline, and none where it is a move alone.
-    fn end(&mut self, marks: &mut Vec<bool>, polylines: &[Vec<Vec2>]) {
-        if marks.len() > 1 {
+    /// Ends a subpath, of whose points it is said which are computed: it is the source's next polyline, and none where it is a move alone.
+    fn end(&mut self, computed: &mut Vec<bool>, polylines: &[Vec<Vec2>]) {
+        if computed.len() > 1 {
             let line = &polylines[self.ends.len()];
-            assert_eq!(line.len(), marks.len(), "the source's polyline");
-            self.points.extend(line.iter().zip(marks.iter()).flat_map(|(p, m)| [(p.x, *m), (p.y, *m)]));
+            assert_eq!(line.len(), computed.len(), "the source's polyline");
+            self.points.extend(line.iter().zip(computed.iter()).flat_map(|(p, c)| [(p.x, *c), (p.y, *c)]));
             self.ends.push(self.points.len() / 2);
         }
-        marks.clear();
+        computed.clear();
     }
 }
 
@@ -487,28 +487,28 @@ fn reference_flat(path: &Path, tolerance: f32) -> (Flat, Vec<Vec<Vec2>>) {
     let polylines = flatten(path, tolerance);
     let mut flat = Flat::default();
     let (mut pen, mut start) = (Vec2::ZERO, Vec2::ZERO);
-    let mut marks: Vec<bool> = Vec::new();
+    let mut computed: Vec<bool> = Vec::new();
     for (verb, p) in path.segments() {
         let count = curve_count(pen, p, tolerance);
         match verb {
             Verb::MoveTo => {
-                flat.end(&mut marks, &polylines);
+                flat.end(&mut computed, &polylines);
                 start = p[0];
-                marks.push(false);
+                computed.push(false);
             }
             Verb::LineTo => {
                 flat.lines += 1;
-                marks.push(false);
+                computed.push(false);
             }
             Verb::QuadTo | Verb::CubicTo => {
                 let inner = count.map_or(0, |(n, _)| n - 1);
-                marks.resize(marks.len() + inner, true);
-                marks.push(false);
+                computed.resize(computed.len() + inner, true);
+                computed.push(false);
             }
             Verb::Close => {
                 let line = polylines.get(flat.ends.len());
-                if marks.len() > 1 && line.is_some_and(|l| l[0] == start && l[marks.len() - 1] != start) {
-                    marks.push(false);
+                if computed.len() > 1 && line.is_some_and(|l| l[0] == start && l[computed.len() - 1] != start) {
+                    computed.push(false);
                     flat.closings += 1;
                 }
             }
@@ -516,7 +516,7 @@ fn reference_flat(path: &Path, tolerance: f32) -> (Flat, Vec<Vec<Vec2>>) {
         flat.each.push(count);
         pen = *p.last().unwrap_or(&start);
     }
-    flat.end(&mut marks, &polylines);
+    flat.end(&mut computed, &polylines);
     assert_eq!(flat.ends.len(), polylines.len(), "the source's polylines");
     (flat, polylines)
 }
@@ -545,29 +545,78 @@ impl Given {
     }
 }
 
-/// Flattening into outputs of such lengths. `flat` is what is right where the path isn't refused.
-fn flattening(g: &Given, tolerance: f32, flat: Option<&Flat>, lens: (usize, usize)) -> Checked {
-    let (mut out, mut ends) = (Floats::new(lens.0), Ends::new(lens.1));
-    // SAFETY: the path is read; the outputs are lent with their own lengths.
-    let got = g.ask(|v, n, p, m| unsafe { ffi::hz_flatten(v, n, p, m, tolerance, out.lent.as_mut_ptr(), lens.0, ends.lent.as_mut_ptr(), lens.1) });
-    let mut number = if lens.0 % 2 == 1 { 1 } else { g.refusal() };
+/// Room for a flattening.
+#[derive(Clone, Copy)]
+struct Room {
+    floats: usize,
+    ends: usize,
+}
+
+impl Room {
+    /// Exactly what a flattening needs.
+    fn of(f: &Flat) -> Room {
+        Room { floats: f.points.len(), ends: f.ends.len() }
+    }
+    /// About what so many floats and polylines need: see `lengths`.
+    fn near(r: &mut Rng, floats: usize, polylines: usize) -> Room {
+        let (floats, ends) = lengths(r, floats, polylines);
+        Room { floats, ends }
+    }
+    fn takes(&self, f: &Flat) -> bool {
+        f.points.len() <= self.floats && f.ends.len() <= self.ends
+    }
+}
+
+/// The buffers lent for a flattening, by itself or as the scratch of a dashing.
+struct Polylines {
+    room: Room,
+    points: Floats,
+    ends: Ends,
+}
+
+impl Polylines {
+    fn new(room: Room) -> Polylines {
+        Polylines { room, points: Floats::new(room.floats), ends: Ends::new(room.ends) }
+    }
+    fn flatten(&mut self, g: &Given, tolerance: f32) -> ffi::Flattened {
+        let Polylines { room, points, ends } = self;
+        let (points, ends) = (points.lent.as_mut_ptr(), ends.lent.as_mut_ptr());
+        // SAFETY: the path is read; the outputs are lent with their own lengths.
+        g.ask(|v, n, p, m| unsafe { ffi::hz_flatten(v, n, p, m, tolerance, points, room.floats, ends, room.ends) })
+    }
+    /// What a path flattened to `f` is to leave: all of it, or nothing where there isn't room, which is 3. Says whether there is.
+    fn expect(&mut self, f: &Flat) -> bool {
+        if self.room.takes(f) {
+            self.points.expect(0, &f.points);
+            self.ends.want[..f.ends.len()].copy_from_slice(&f.ends);
+            return true;
+        }
+        f.seen_held(HELD_FIRST_3);
+        false
+    }
+    fn all(&self, whose: &str) -> Checked {
+        self.points.all(&format!("{whose} points"))?;
+        self.ends.all(&format!("{whose} ends"))
+    }
+}
+
+/// Flattening into such room. `flat` is what is right where the path isn't refused.
+fn flattening(g: &Given, tolerance: f32, flat: Option<&Flat>, room: Room) -> Checked {
+    let mut out = Polylines::new(room);
+    let got = out.flatten(g, tolerance);
+    let mut number = if room.floats % 2 == 1 { 1 } else { g.refusal() };
+    let mut want = [0; 7];
     if let (0, Some(f)) = (number, flat) {
-        if lens.0 < f.points.len() || lens.1 < f.ends.len() {
+        if out.expect(f) {
+            want = [f.points.len() / 2, f.ends.len(), f.ends.len(), f.lines, f.counts(), f.closings, f.held()];
+            f.each.iter().flatten().for_each(|(_, s)| seen_squared(FLATTENED, *s));
+        } else {
             number = 3;
-            f.seen_held(HELD_FIRST_3);
         }
     }
     refused("flatten refusal", got.refused, number)?;
-    let mut want = [0; 7];
-    if let (0, Some(f)) = (number, flat) {
-        want = [f.points.len() / 2, f.ends.len(), f.ends.len(), f.lines, f.counts(), f.closings, f.held()];
-        f.each.iter().flatten().for_each(|(_, s)| seen_squared(FLATTENED, *s));
-        out.expect(0, &f.points);
-        ends.want[..f.ends.len()].copy_from_slice(&f.ends);
-    }
     equal("flatten totals", [got.points, got.polylines, got.starts, got.lines, got.counts, got.closings, got.held], want)?;
-    out.all("flattened points")?;
-    ends.all("flattened ends")
+    out.all("flattened")
 }
 
 /// The N of every verb and whether it was held back, past the end nothing; and the verbs of all curves held back, which the Rust interface lists.
@@ -592,20 +641,19 @@ impl Cut {
     }
 }
 
-/// The buffers lent for dashing: the scratch's points and ends, and the dash's.
+/// The buffers lent for dashing: the scratch, and the dash's points and verbs.
 struct Lent {
-    scratch: Floats,
-    ends: Ends,
+    scratch: Polylines,
     points: Floats,
     verbs: Bytes,
 }
 
 impl Lent {
-    fn new(scratch: (usize, usize), dash: (usize, usize)) -> Lent {
-        Lent { scratch: Floats::new(scratch.0), ends: Ends::new(scratch.1), points: Floats::new(dash.0), verbs: Bytes::new(dash.1) }
+    fn new(scratch: Room, dash: (usize, usize)) -> Lent {
+        Lent { scratch: Polylines::new(scratch), points: Floats::new(dash.0), verbs: Bytes::new(dash.1) }
     }
     fn dash(&mut self, g: &Given, c: &Case, rule: u8) -> ffi::Dashed {
-        let Lent { scratch, ends, points, verbs } = self;
+        let Lent { scratch, points, verbs } = self;
         // SAFETY: path and pattern are read; the outputs are lent with their own lengths.
         g.ask(|v, n, p, m| unsafe {
             ffi::hz_dash_path(
@@ -618,10 +666,10 @@ impl Lent {
                 c.intervals.len(),
                 c.phase,
                 c.tolerance,
-                scratch.lent.as_mut_ptr(),
-                scratch.lent.len(),
-                ends.lent.as_mut_ptr(),
-                ends.lent.len(),
+                scratch.points.lent.as_mut_ptr(),
+                scratch.room.floats,
+                scratch.ends.lent.as_mut_ptr(),
+                scratch.room.ends,
                 verbs.lent.as_mut_ptr(),
                 verbs.lent.len(),
                 points.lent.as_mut_ptr(),
@@ -630,19 +678,15 @@ impl Lent {
         })
     }
     fn all(&self) -> Checked {
-        self.scratch.all("dash scratch")?;
-        self.ends.all("dash ends")?;
+        self.scratch.all("scratch")?;
         self.verbs.all("dash verbs")?;
         self.points.all("dash points")
     }
     /// What a path flattened to `f` and cut to `d` is to leave in the buffers, and the refusal: 3 for the scratch, 3 for the dash buffers, or none.
     fn expect(&mut self, f: &Flat, d: &Cut) -> u8 {
-        if self.scratch.lent.len() < f.points.len() || self.ends.lent.len() < f.ends.len() {
-            f.seen_held(HELD_FIRST_3);
+        if !self.scratch.expect(f) {
             return 3;
         }
-        self.scratch.expect(0, &f.points);
-        self.ends.want[..f.ends.len()].copy_from_slice(&f.ends);
         let (verbs, points) = (self.verbs.lent.len().min(numbers::MAX_VERBS), self.points.lent.len().min(2 * numbers::MAX_POINTS));
         if d.verbs.len() > verbs || d.points.len() > points {
             f.seen_held(HELD_SECOND_3);
@@ -654,21 +698,12 @@ impl Lent {
     }
 }
 
-/// Dashing into outputs of such lengths; `whole` and `cut` are what is right where nothing is refused.
+/// Dashing into such a scratch and outputs of such lengths; `whole` and `cut` are what is right where nothing is refused.
 #[allow(clippy::too_many_arguments)]
-fn dashing(
-    g: &Given,
-    c: &Case,
-    rule: u8,
-    flat: Option<&Flat>,
-    whole: bool,
-    cut: Option<&Cut>,
-    scratch_lens: (usize, usize),
-    dash_lens: (usize, usize),
-) -> Checked {
-    let mut lent = Lent::new(scratch_lens, dash_lens);
+fn dashing(g: &Given, c: &Case, rule: u8, flat: Option<&Flat>, whole: bool, cut: Option<&Cut>, scratch: Room, dash_lens: (usize, usize)) -> Checked {
+    let mut lent = Lent::new(scratch, dash_lens);
     let got = lent.dash(g, c, rule);
-    let mut number = if scratch_lens.0 % 2 == 1 || dash_lens.0 % 2 == 1 { 1 } else { g.refusal() };
+    let mut number = if scratch.floats % 2 == 1 || dash_lens.0 % 2 == 1 { 1 } else { g.refusal() };
     if number == 0 && c.intervals.len() > 64 {
         number = 8;
     }
@@ -802,8 +837,8 @@ fn refused_path(r: &mut Rng, c: &Case, g: &Given) -> Checked {
     equal("range of a refused path", (range.refused, range.holds), (number, false))?;
     equal("convexity of a refused path", (convex.refused, convex.convexity), (number, 1))?;
     equal("count of a refused path", (carried.refused, carried.count, carried.held), (number, 0, false))?;
-    flattening(g, c.tolerance, None, lengths(r, 24, 4))?;
-    dashing(g, c, 0, None, false, None, lengths(r, 24, 4), lengths(r, 24, 12))
+    flattening(g, c.tolerance, None, Room::near(r, 24, 4))?;
+    dashing(g, c, 0, None, false, None, Room::near(r, 24, 4), lengths(r, 24, 12))
 }
 
 // ---- values
@@ -924,8 +959,8 @@ fn dashed(r: &mut Rng, c: &Case, mut b: PathBuilder, given: &Given, flat: &Flat,
     }
     let cut = Cut::of(&cut);
     let rule = if path.fill_rule() == FillRule::NonZero { 0 } else { 1 + r.below(255) as u8 };
-    let scratch = lengths(r, flat.points.len(), flat.ends.len());
-    let scratch = if r.one_in(2) { (flat.points.len(), flat.ends.len()) } else { scratch };
+    let scratch = Room::near(r, flat.points.len(), flat.ends.len());
+    let scratch = if r.one_in(2) { Room::of(flat) } else { scratch };
     dashing(given, c, rule, Some(flat), whole, Some(&cut), scratch, lengths(r, cut.points.len(), cut.verbs.len()))
 }
 
@@ -949,14 +984,14 @@ pub fn case(c: &Case) -> Checked {
     let given = Given::of(&path);
     questions(&given, &path, r)?;
     let (flat, polylines) = reference_flat(&path, c.tolerance);
-    flattening(&given, c.tolerance, Some(&flat), lengths(r, flat.points.len(), flat.ends.len()))?;
+    flattening(&given, c.tolerance, Some(&flat), Room::near(r, flat.points.len(), flat.ends.len()))?;
     carried(&given, c.tolerance, &flat)?;
     dashed(r, c, b, &given, &flat, &polylines)?;
     if r.one_in(8) {
         // over 64 intervals, on a path that may be refused for other reasons first
         let mut long = c.clone();
         long.intervals.resize(65 + r.below(70) as usize, 1.0);
-        dashing(&given, &long, 0, None, false, None, lengths(r, 24, 4), lengths(r, 24, 12))?;
+        dashing(&given, &long, 0, None, false, None, Room::near(r, 24, 4), lengths(r, 24, 12))?;
     }
     if r.one_in(3) {
         damaged_path(r, c, given)?;
@@ -1001,7 +1036,7 @@ pub fn limits(r: &mut Rng) -> Checked {
         let path = b.build();
         let (flat, _) = reference_flat(&path, 0.25);
         let cut = Cut::of(&dash_path(&path, &Dash::new(c.intervals.clone(), 0.0), 0.25));
-        dashing(&Given::of(&path), &c, 1, Some(&flat), false, Some(&cut), (4, 1), (140_000, 70_000))?;
+        dashing(&Given::of(&path), &c, 1, Some(&flat), false, Some(&cut), Room { floats: 4, ends: 1 }, (140_000, 70_000))?;
     }
     Ok(())
 }
