@@ -247,6 +247,33 @@ pub fn at_edge(r: &mut Rng, mut c: Case) -> Case {
     c
 }
 
+/// The case with closes strewn in, behind moves, behind closes and behind lines to the start too, with moves that have nothing drawn behind them, and
+/// with NaN starts.
+pub fn strewn(r: &mut Rng, mut c: Case) -> Case {
+    let (mut calls, mut start) = (Vec::new(), [0.0; 2]);
+    for mut call in c.calls {
+        if let Call::Move(p) = &mut call {
+            if r.one_in(4) {
+                p[r.below(2) as usize] = f32::NAN;
+            }
+            start = *p;
+        }
+        calls.push(call);
+        while r.one_in(3) {
+            if r.one_in(4) {
+                calls.push(Call::Line(start));
+            }
+            calls.push(Call::Close);
+        }
+        if r.one_in(6) {
+            start = [r.below(9) as f32, 0.0];
+            calls.push(Call::Move(start));
+        }
+    }
+    c.calls = calls;
+    c
+}
+
 /// A random case with at most `long` calls where it is a long one: one in sixteen.
 pub fn random(r: &mut Rng, long: u64) -> Case {
     let kind = r.below(7);

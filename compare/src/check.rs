@@ -1,8 +1,8 @@
-//! One case through both sides: every answer and every buffer of the library against the Rust source, the numbers, and, for curves held back, the
-//! request.
+//! One case through both sides: every answer and every buffer of the library against the Rust source, the numbers, and, for curves held back and for
+//! the marks of polylines, the requests.
 use crate::case::{self, Call, Case, Point, Rng};
-use crate::reference::{apply, curve_count, rule_of, v2};
-use crate::{held, numbers};
+use crate::reference::{apply, curve_count, passed_over, rule_of, subpaths, v2};
+use crate::{held, marks, numbers};
 use hizlaou::ffi::{self, Builder};
 use hizlaou::{held_curves, SegmentCount, Vec2 as Pt};
 use source::dash::{dash_path, Dash};
@@ -16,7 +16,7 @@ use std::sync::atomic::{AtomicU64, Ordering};
 pub type Differs = (String, String);
 type Checked = Result<(), Differs>;
 
-const KINDS: usize = 28;
+const KINDS: usize = 47;
 static SEEN: [AtomicU64; KINDS] = [const { AtomicU64::new(0) }; KINDS];
 const NAMES: [&str; KINDS] = [
     "",
@@ -47,6 +47,25 @@ const NAMES: [&str; KINDS] = [
     "drawn whole with held curves",
     "3 for points or scratch with held curves",
     "3 for the dash buffers with held curves",
+    "polylines marked 0",
+    "marked 1",
+    "marked 0 with an added closing",
+    "marked 1 without one",
+    "marked 0 with a drawn verb behind a close",
+    "marked 1 by two closes in a row",
+    "marked 0 with a close behind the move",
+    "marked 1 with a close behind the move",
+    "marked 1 at a NaN start",
+    "subpaths that are a move alone",
+    "a move and closes alone",
+    "between two polylines",
+    "flattenings with just the marks' room",
+    "with more",
+    "3 for the marks alone",
+    "3 for the scratch's marks alone",
+    "3 for the dash buffers with marks left",
+    "cut with marks left",
+    "drawn whole with marks to leave alone",
 ];
 /// The first of four: not held, held, and the same near the edge. For counts asked alone, and for the curves of accepted flattenings.
 const ASKED: usize = 16;
@@ -56,18 +75,43 @@ const HELD_CUT: usize = 24;
 const HELD_WHOLE: usize = 25;
 const HELD_FIRST_3: usize = 26;
 const HELD_SECOND_3: usize = 27;
+/// The first of two: marked 0, marked 1. Polylines of accepted flattenings, and what their subpaths are like.
+const MARKED: usize = 28;
+const OPEN_ADDED: usize = 30;
+const CLOSED_UNADDED: usize = 31;
+const DRAWN_BEHIND: usize = 32;
+const TWO_CLOSES: usize = 33;
+const OPEN_CLOSED_FIRST: usize = 34;
+const CLOSED_CLOSED_FIRST: usize = 35;
+const CLOSED_NAN: usize = 36;
+/// Subpaths of accepted flattenings that have no polyline and so no mark.
+const MOVE_ALONE: usize = 37;
+const CLOSES_ALONE: usize = 38;
+const BETWEEN: usize = 39;
+/// Room for marks.
+const MARKS_FULL: usize = 40;
+const MARKS_AMPLE: usize = 41;
+const MARKS_3: usize = 42;
+const SCRATCH_MARKS_3: usize = 43;
+const MARKS_SECOND_3: usize = 44;
+const MARKS_CUT: usize = 45;
+const MARKS_WHOLE: usize = 46;
 
 fn seen(what: usize) {
     SEEN[what].fetch_add(1, Ordering::Relaxed);
+}
+
+fn seen_if(holds: bool, what: usize) {
+    if holds {
+        seen(what);
+    }
 }
 
 /// Counts an s among the four kinds from `first` on.
 fn seen_squared(first: usize, s: f32) {
     let held = usize::from(held::held(s));
     seen(first + held);
-    if held::near_edge(s) {
-        seen(first + 2 + held);
-    }
+    seen_if(held::near_edge(s), first + 2 + held);
 }
 
 /// What the cases came to.
@@ -456,6 +500,10 @@ struct Flat {
     closings: usize,
     /// For each verb the N and the s of its curve.
     each: Vec<Option<(usize, f32)>>,
+    /// By the request.
+    marks: Vec<u8>,
+    /// What the subpaths are like, by the kinds that are counted.
+    corners: Vec<usize>,
 }
 
 impl Flat {
@@ -467,8 +515,13 @@ impl Flat {
     }
     /// Counts an answer of kind `what` where curves are held back.
     fn seen_held(&self, what: usize) {
-        if self.held() > 0 {
-            seen(what);
+        seen_if(self.held() > 0, what);
+    }
+    /// Counts what the subpaths of an accepted flattening are like, and how its marks' room was.
+    fn seen_marks(&self, room: Room) {
+        self.corners.iter().for_each(|kind| seen(*kind));
+        if !self.marks.is_empty() {
+            seen(if self.marks.len() == room.marks { MARKS_FULL } else { MARKS_AMPLE });
         }
     }
     /// Ends a subpath, of whose points it is said which are computed: it is the source's next polyline, and none where it is a move alone.
@@ -517,8 +570,40 @@ fn reference_flat(path: &Path, tolerance: f32) -> (Flat, Vec<Vec<Vec2>>) {
         pen = *p.last().unwrap_or(&start);
     }
     flat.end(&mut computed, &polylines);
-    assert_eq!(flat.ends.len(), polylines.len(), "the source's polylines");
+    flat.marks = marks::marks(path.verbs());
+    assert_eq!((flat.ends.len(), flat.marks.len()), (polylines.len(), polylines.len()), "the source's polylines");
+    flat.corners = corners(path, &flat.each, &polylines);
     (flat, polylines)
+}
+
+/// What the subpaths of a path are like.
+fn corners(path: &Path, each: &[Option<(usize, f32)>], polylines: &[Vec<Vec2>]) -> Vec<usize> {
+    let subpaths = subpaths(path, each, polylines);
+    let mut kinds = vec![BETWEEN; passed_over(&subpaths)];
+    for (verbs, line) in subpaths {
+        match line {
+            Some((start, closings)) => kinds.extend(polyline_corners(verbs, start, closings)),
+            None => kinds.push(if verbs.len() == 1 { MOVE_ALONE } else { CLOSES_ALONE }),
+        }
+    }
+    kinds
+}
+
+/// What a subpath is like whose polyline has this start and so many added closings.
+fn polyline_corners(verbs: &[Verb], start: Vec2, closings: usize) -> Vec<usize> {
+    let (shape, mark) = (marks::shape(verbs), marks::mark(verbs));
+    let closed = mark == 1;
+    let kinds = [
+        (true, MARKED + usize::from(mark)),
+        (!closed && closings > 0, OPEN_ADDED),
+        (closed && closings == 0, CLOSED_UNADDED),
+        (!closed && shape.contains("DZ"), DRAWN_BEHIND),
+        (shape.ends_with("ZZ"), TWO_CLOSES),
+        (!closed && shape.starts_with("MZ"), OPEN_CLOSED_FIRST),
+        (closed && shape.starts_with("MZ"), CLOSED_CLOSED_FIRST),
+        (closed && start.is_nan(), CLOSED_NAN),
+    ];
+    kinds.into_iter().filter(|(is, _)| *is).map(|(_, kind)| kind).collect()
 }
 
 /// A path as it is handed in.
@@ -550,20 +635,30 @@ impl Given {
 struct Room {
     floats: usize,
     ends: usize,
+    marks: usize,
 }
 
 impl Room {
     /// Exactly what a flattening needs.
     fn of(f: &Flat) -> Room {
-        Room { floats: f.points.len(), ends: f.ends.len() }
+        Room { floats: f.points.len(), ends: f.ends.len(), marks: f.marks.len() }
     }
-    /// About what so many floats and polylines need: see `lengths`.
+    /// About what so many floats and polylines need: see `lengths`. The marks' room varies by itself.
     fn near(r: &mut Rng, floats: usize, polylines: usize) -> Room {
         let (floats, ends) = lengths(r, floats, polylines);
-        Room { floats, ends }
+        let marks = match r.below(8) {
+            0..=2 => polylines,
+            3..=5 => polylines + 1 + r.below(4) as usize,
+            6 => polylines.saturating_sub(1),
+            _ => r.below(polylines as u64 + 1) as usize,
+        };
+        Room { floats, ends, marks }
     }
-    fn takes(&self, f: &Flat) -> bool {
+    fn takes_lines(&self, f: &Flat) -> bool {
         f.points.len() <= self.floats && f.ends.len() <= self.ends
+    }
+    fn takes_marks(&self, f: &Flat) -> bool {
+        f.marks.len() <= self.marks
     }
 }
 
@@ -572,31 +667,36 @@ struct Polylines {
     room: Room,
     points: Floats,
     ends: Ends,
+    marks: Bytes,
 }
 
 impl Polylines {
     fn new(room: Room) -> Polylines {
-        Polylines { room, points: Floats::new(room.floats), ends: Ends::new(room.ends) }
+        Polylines { room, points: Floats::new(room.floats), ends: Ends::new(room.ends), marks: Bytes::new(room.marks) }
     }
     fn flatten(&mut self, g: &Given, tolerance: f32) -> ffi::Flattened {
-        let Polylines { room, points, ends } = self;
-        let (points, ends) = (points.lent.as_mut_ptr(), ends.lent.as_mut_ptr());
+        let Polylines { room, points, ends, marks } = self;
+        let (points, ends, marks) = (points.lent.as_mut_ptr(), ends.lent.as_mut_ptr(), marks.lent.as_mut_ptr());
         // SAFETY: the path is read; the outputs are lent with their own lengths.
-        g.ask(|v, n, p, m| unsafe { ffi::hz_flatten(v, n, p, m, tolerance, points, room.floats, ends, room.ends) })
+        g.ask(|v, n, p, m| unsafe { ffi::hz_flatten(v, n, p, m, tolerance, points, room.floats, ends, room.ends, marks, room.marks) })
     }
-    /// What a path flattened to `f` is to leave: all of it, or nothing where there isn't room, which is 3. Says whether there is.
-    fn expect(&mut self, f: &Flat) -> bool {
-        if self.room.takes(f) {
+    /// What a path flattened to `f` is to leave: all of it, or nothing where there isn't room, which is 3. Says whether there is; where only the
+    /// marks have none, that is counted as `short`.
+    fn expect(&mut self, f: &Flat, short: usize) -> bool {
+        if self.room.takes_lines(f) && self.room.takes_marks(f) {
             self.points.expect(0, &f.points);
             self.ends.want[..f.ends.len()].copy_from_slice(&f.ends);
+            self.marks.want[..f.marks.len()].copy_from_slice(&f.marks);
             return true;
         }
         f.seen_held(HELD_FIRST_3);
+        seen_if(self.room.takes_lines(f), short);
         false
     }
     fn all(&self, whose: &str) -> Checked {
         self.points.all(&format!("{whose} points"))?;
-        self.ends.all(&format!("{whose} ends"))
+        self.ends.all(&format!("{whose} ends"))?;
+        self.marks.all(&format!("{whose} marks"))
     }
 }
 
@@ -607,9 +707,10 @@ fn flattening(g: &Given, tolerance: f32, flat: Option<&Flat>, room: Room) -> Che
     let mut number = if room.floats % 2 == 1 { 1 } else { g.refusal() };
     let mut want = [0; 7];
     if let (0, Some(f)) = (number, flat) {
-        if out.expect(f) {
+        if out.expect(f, MARKS_3) {
             want = [f.points.len() / 2, f.ends.len(), f.ends.len(), f.lines, f.counts(), f.closings, f.held()];
             f.each.iter().flatten().for_each(|(_, s)| seen_squared(FLATTENED, *s));
+            f.seen_marks(room);
         } else {
             number = 3;
         }
@@ -670,6 +771,8 @@ impl Lent {
                 scratch.room.floats,
                 scratch.ends.lent.as_mut_ptr(),
                 scratch.room.ends,
+                scratch.marks.lent.as_mut_ptr(),
+                scratch.room.marks,
                 verbs.lent.as_mut_ptr(),
                 verbs.lent.len(),
                 points.lent.as_mut_ptr(),
@@ -684,12 +787,13 @@ impl Lent {
     }
     /// What a path flattened to `f` and cut to `d` is to leave in the buffers, and the refusal: 3 for the scratch, 3 for the dash buffers, or none.
     fn expect(&mut self, f: &Flat, d: &Cut) -> u8 {
-        if !self.scratch.expect(f) {
+        if !self.scratch.expect(f, SCRATCH_MARKS_3) {
             return 3;
         }
         let (verbs, points) = (self.verbs.lent.len().min(numbers::MAX_VERBS), self.points.lent.len().min(2 * numbers::MAX_POINTS));
         if d.verbs.len() > verbs || d.points.len() > points {
             f.seen_held(HELD_SECOND_3);
+            seen_if(!f.marks.is_empty(), MARKS_SECOND_3);
             return 3;
         }
         self.verbs.want[..d.verbs.len()].copy_from_slice(&d.verbs);
@@ -712,11 +816,13 @@ fn dashing(g: &Given, c: &Case, rule: u8, flat: Option<&Flat>, whole: bool, cut:
     if let (0, Some(f), Some(d)) = (number, flat, cut) {
         if whole {
             f.seen_held(HELD_WHOLE);
+            seen_if(!f.marks.is_empty() && scratch.marks > 0, MARKS_WHOLE);
         } else {
             number = lent.expect(f, d);
         }
         if !whole && number == 0 {
             f.seen_held(HELD_CUT);
+            seen_if(!f.marks.is_empty(), MARKS_CUT);
             want = ([d.verbs.len(), d.points.len() / 2, f.points.len() / 2, f.ends.len(), f.held()], 1, u8::from(rule != 0));
         }
     }
@@ -1036,7 +1142,25 @@ pub fn limits(r: &mut Rng) -> Checked {
         let path = b.build();
         let (flat, _) = reference_flat(&path, 0.25);
         let cut = Cut::of(&dash_path(&path, &Dash::new(c.intervals.clone(), 0.0), 0.25));
-        dashing(&Given::of(&path), &c, 1, Some(&flat), false, Some(&cut), Room { floats: 4, ends: 1 }, (140_000, 70_000))?;
+        dashing(&Given::of(&path), &c, 1, Some(&flat), false, Some(&cut), Room { floats: 4, ends: 1, marks: 1 }, (140_000, 70_000))?;
     }
-    Ok(())
+    many_marks(r)
+}
+
+/// About as many polylines as the limits leave, with just the room for their marks, and with one byte less.
+fn many_marks(r: &mut Rng) -> Checked {
+    let mut b = PathBuilder::new();
+    for _ in 0..numbers::MAX_VERBS / 3 {
+        b.move_to(Vec2::new(r.below(64) as f32, 0.0)).line_to(Vec2::new(0.0, r.below(64) as f32));
+        if r.one_in(2) {
+            b.close();
+        }
+    }
+    let path = b.build();
+    let (given, (mut flat, _)) = (Given::of(&path), reference_flat(&path, 0.25));
+    // So many would hide how often random paths have each.
+    flat.corners.clear();
+    let room = Room::of(&flat);
+    flattening(&given, 0.25, Some(&flat), room)?;
+    flattening(&given, 0.25, Some(&flat), Room { marks: room.marks - 1, ..room })
 }

@@ -6,23 +6,29 @@
 mod case;
 mod check;
 mod held;
+mod marks;
 mod numbers;
 mod reference;
 
-use case::{at_edge, random, text, Case, Rng};
+use case::{at_edge, random, strewn, text, Case, Rng};
 use std::sync::atomic::{AtomicU64, Ordering};
 use std::time::Instant;
 
 /// One case in so many flattens at the edge where a curve is held back. A curve has 1,000 lines there: more of these cases would cost time.
 const EDGES: u64 = 8;
 
+/// One case in so many has closes and moves strewn in.
+const STREWN: u64 = 6;
+
 fn drawn(r: &mut Rng, number: u64) -> Case {
-    let c = random(r, if number % 256 == 0 { 400 } else { 60 });
-    if r.one_in(EDGES) {
-        at_edge(r, c)
-    } else {
-        c
+    let mut c = random(r, if number % 256 == 0 { 400 } else { 60 });
+    if r.one_in(STREWN) {
+        c = strewn(r, c);
     }
+    if r.one_in(EDGES) {
+        c = at_edge(r, c);
+    }
+    c
 }
 
 /// The case without calls, intervals and numbers that it does not need to differ in the same question.

@@ -1,8 +1,8 @@
-//! What the Rust source makes of a call and of a curve: for the comparison, and for the maker of the program's list.
+//! What the Rust source makes of a call, of a curve and of a subpath: for the comparison, and for the maker of the program's list.
 use crate::case::{Call, Point};
-use crate::held;
+use crate::{held, marks};
 use source::flatten::{cubic_segment_count, quad_segment_count};
-use source::path::{FillRule, PathBuilder, Rect};
+use source::path::{FillRule, Path, PathBuilder, Rect, Verb};
 use source::Vec2;
 
 pub fn v2(p: Point) -> Vec2 {
@@ -39,4 +39,26 @@ pub fn curve_count(pen: Vec2, p: &[Vec2], tolerance: f32) -> Option<(usize, f32)
         _ => return None,
     };
     Some((n as usize, held::squared_from(pen, p, tolerance)))
+}
+
+/// A subpath, and of its polyline by the source, if it has one, the start and how many closings were added.
+type Subpath<'a> = (&'a [Verb], Option<(Vec2, usize)>);
+
+/// The subpaths of a path: of each verb its curve's N and s, and the source's polylines.
+pub fn subpaths<'a>(path: &'a Path, each: &[Option<(usize, f32)>], polylines: &[Vec<Vec2>]) -> Vec<Subpath<'a>> {
+    let (mut each, mut polylines) = (each.iter(), polylines.iter());
+    let told = |verbs: &'a [Verb]| {
+        let counts: usize = each.by_ref().take(verbs.len()).flatten().map(|(n, _)| n).sum();
+        let drawn = counts + verbs.iter().filter(|v| **v == Verb::LineTo).count();
+        let line = (drawn > 0).then(|| polylines.next().expect("the source's polyline"));
+        (verbs, line.map(|l| (l[0], l.len() - 1 - drawn)))
+    };
+    marks::subpaths(path.verbs()).map(told).collect()
+}
+
+/// How often subpaths without a polyline stand between two that have one.
+pub fn passed_over(subpaths: &[Subpath]) -> usize {
+    let mut kept: Vec<bool> = subpaths.iter().map(|s| s.1.is_some()).collect();
+    kept.dedup();
+    kept.windows(3).filter(|w| w[0] && w[2]).count()
 }

@@ -12,7 +12,11 @@ mod case;
 #[path = "../held.rs"]
 #[allow(dead_code)]
 mod held;
+#[path = "../marks.rs"]
+#[allow(dead_code)]
+mod marks;
 #[path = "../reference.rs"]
+#[allow(dead_code)]
 mod reference;
 
 use case::{Call, Case, Rng};
