@@ -1,5 +1,5 @@
 //! Writes the list that the program `vectors` replays (crates/vectors/src/main.rt has its form): cases with every answer of the Rust source, and,
-//! which it does not say, the curves that are held back, by `held.rs`.
+//! which it does not say, the curves that are held back, by `held.rs`, and the marks of polylines, by `marks.rs`.
 //!
 //!     compare/vectors SOURCE > crates/vectors/stdin
 //!
@@ -13,14 +13,12 @@ mod case;
 #[allow(dead_code)]
 mod held;
 #[path = "../marks.rs"]
-#[allow(dead_code)]
 mod marks;
 #[path = "../reference.rs"]
-#[allow(dead_code)]
 mod reference;
 
 use case::{Call, Case, Rng};
-use reference::{apply, curve_count};
+use reference::{apply, curve_count, passed_over, subpaths};
 use source::dash::{dash_path, Dash};
 use source::flatten::{self as curves, flatten};
 use source::path::{polygon_convexity, Convexity, FillRule, Path, PathBuilder, Rect, Verb};
@@ -71,6 +69,33 @@ impl Words {
         self.n(vs.len());
         vs.iter().for_each(|v| self.n(*v as usize));
     }
+    fn counts(&mut self, ns: &[usize]) {
+        self.n(ns.len());
+        ns.iter().for_each(|n| self.n(*n));
+    }
+    /// The marks that are written into room for so many, and the filling behind them, of which two bytes are enough.
+    fn marks(&mut self, marks: &[u8], written: bool, room: usize) {
+        let shown = room.min(marks.len() + 2);
+        let marks: Vec<usize> = marks.iter().map(|m| usize::from(*m)).collect();
+        self.counts(&filled(if written { &marks } else { &[] }, MARK, shown));
+    }
+    /// The front of the buffers that a flattening writes, or leaves alone: a point, an end and the marks.
+    fn front(&mut self, flat: &Flat, written: bool, room: usize) {
+        let (points, ends) = if written { (flat.points(), flat.ends()) } else { (Vec::new(), Vec::new()) };
+        self.points(&filled(&points, Vec2::splat(FLOAT), 1));
+        self.counts(&filled(&ends, END, 1));
+        self.marks(&flat.marks, written, room);
+    }
+}
+
+/// What the program fills its buffers with.
+const FLOAT: f32 = 77.5;
+const END: usize = 7777;
+const MARK: usize = 165;
+
+/// The first `n` elements of a buffer so filled, in which these were written.
+fn filled<T: Copy>(written: &[T], filling: T, n: usize) -> Vec<T> {
+    written.iter().copied().chain(std::iter::repeat(filling)).take(n).collect()
 }
 
 fn rule(p: &Path) -> usize {
@@ -109,15 +134,20 @@ struct Answers {
     shows: Vec<String>,
 }
 
-/// A flattened path: its polylines, and for each verb its curve's N and s.
+/// A flattened path: its polylines, for each verb its curve's N and s, and the polylines' marks.
 struct Flat {
     polylines: Vec<Vec<Vec2>>,
     each: Vec<Option<(usize, f32)>>,
+    marks: Vec<u8>,
 }
 
 impl Flat {
     fn points(&self) -> Vec<Vec2> {
         self.polylines.iter().flatten().copied().collect()
+    }
+    fn ends(&self) -> Vec<usize> {
+        let mut end = 0;
+        self.polylines.iter().map(|l| (end += l.len(), end).1).collect()
     }
     fn held(&self) -> usize {
         held::curves(&self.each).len()
@@ -232,7 +262,7 @@ impl Answers {
             }
             pen = *p.last().unwrap_or(&start);
         }
-        Flat { polylines: flatten(path, tolerance), each }
+        Flat { polylines: flatten(path, tolerance), each, marks: marks::marks(path.verbs()) }
     }
 
     fn flattened(&mut self, path: &Path, flat: &Flat) {
@@ -249,15 +279,43 @@ impl Answers {
         w.n(0);
         [starts, lines, counts, closings, flat.held()].iter().for_each(|n| w.n(*n));
         w.points(&points);
-        w.n(starts);
-        let mut end = 0;
-        for l in &flat.polylines {
-            end += l.len();
-            w.n(end);
+        w.counts(&flat.ends());
+        w.marks(&flat.marks, true, ROOM);
+    }
+
+    /// What the subpaths are like, and which marks their polylines have.
+    fn subpaths(&mut self, path: &Path, flat: &Flat) {
+        let subpaths = subpaths(path, &flat.each, &flat.polylines);
+        self.shows.push(format!("subpaths passed over between polylines {}", passed_over(&subpaths).min(2)));
+        for (verbs, line) in subpaths {
+            let shape: String = marks::shape(verbs).chars().take(6).collect();
+            self.shows.push(match line {
+                None => format!("{shape} without a polyline"),
+                Some((start, closings)) => {
+                    let mark = marks::mark(verbs);
+                    format!("{shape} marked {mark}, closings {}, NaN start {}", closings.min(1), start.is_nan())
+                }
+            });
         }
+    }
+
+    /// Flattened with room for one mark, and again with room for two.
+    fn rooms(&mut self, flat: &Flat) {
+        let marks = flat.marks.len();
+        for room in [1, 2] {
+            let fits = marks <= room;
+            self.words.n(if fits { 0 } else { 3 });
+            self.words.n(if fits { marks } else { 0 });
+            self.words.front(flat, fits, room);
+            self.shows.push(format!("room for {room} marks of {}", marks.min(4)));
+        }
+    }
+
+    /// The N of every verb, and whether it was held back.
+    fn counts(&mut self, flat: &Flat) {
         for (n, s) in flat.each.iter().map(|count| count.unwrap_or((0, 0.0))) {
-            w.n(n);
-            w.n(usize::from(held::held(s)));
+            self.words.n(n);
+            self.words.n(usize::from(held::held(s)));
         }
     }
 
@@ -295,19 +353,24 @@ impl Answers {
             ));
         }
         self.words.n(usize::from(dash.is_usable()));
-        for room in [2048, 1] {
-            self.dash_answer(&cut, flat.held(), room);
+        for (verbs, marks) in [(2048, ROOM), (1, ROOM), (2048, 1)] {
+            self.dash_answer(&cut, flat, verbs, marks);
         }
         Some(cut)
     }
 
-    /// The answer where the dash buffers take so many verbs. It has the number of curves held back only where it is Cut.
-    fn dash_answer(&mut self, cut: &Path, held: usize, room: usize) {
-        let w = &mut self.words;
+    /// The answer where the dash buffers take so many verbs and the scratch so many marks, and what is left in the scratch. It has the number of
+    /// curves held back only where it is Cut.
+    fn dash_answer(&mut self, cut: &Path, flat: &Flat, verbs: usize, marks: usize) {
+        let (w, held, polylines) = (&mut self.words, flat.held(), flat.marks.len());
         let kind = if cut.as_rounded_rect().is_some() {
             w.n(0);
             "whole"
-        } else if cut.verbs().len() > room {
+        } else if polylines > marks {
+            w.n(2);
+            w.n(3);
+            "no room in the scratch"
+        } else if cut.verbs().len() > verbs {
             w.n(2);
             w.n(3);
             "no room"
@@ -319,7 +382,9 @@ impl Answers {
             w.points(cut.points());
             "cut"
         };
+        w.front(flat, matches!(kind, "no room" | "cut"), marks);
         self.shows.push(format!("{kind} held {}", held.min(2)));
+        self.shows.push(format!("{kind} with room for {marks} marks of {}", polylines.min(3)));
     }
 }
 
@@ -333,22 +398,25 @@ fn answered(c: &Case, most: usize) -> Option<Answers> {
     a.questions(&path);
     let flat = a.flat(&path, c.tolerance);
     a.flattened(&path, &flat);
+    a.subpaths(&path, &flat);
+    a.rooms(&flat);
+    a.counts(&flat);
     b.as_rounded_rect(Rect::new(Vec2::ZERO, Vec2::ZERO), 1.0);
     let cut = a.dashed(c, &b.build(), &flat)?;
     let scaled = curves::tolerance_for_scale(c.tolerance, c.scale);
     a.words.f(scaled);
     a.shows.push(format!("scaled {} by {} {}", like(scaled), like(c.scale), c.scale < 0.0));
     let given = path.verbs().len() <= 500 && path.points().len() <= 1000;
-    let fits = given && flat.points().len() <= 2048 && flat.polylines.len() <= 250 && cut.verbs().len() <= 2000;
+    let fits = given && flat.points().len() <= 2048 && flat.polylines.len() + 2 <= ROOM && cut.verbs().len() <= 2000;
     (fits && a.words.0.len() <= most).then_some(a)
 }
 
-/// From this case on a curve is just held back, or just isn't.
-const FIRST_AT_EDGE: u64 = 280_000;
+/// The room for marks where there is enough.
+const ROOM: usize = 256;
 
-/// What the list must show of curves that are held back: quads (2 points behind the pen) and cubics (3) at the edge, beyond it and far beyond it; one
-/// or two of them in each answer of dashing.
-const MUST: [&str; 17] = [
+/// What the list must show. Of curves that are held back: quads (2 points behind the pen) and cubics (3) at the edge, beyond it and far beyond it;
+/// one or two of them in each answer of dashing. Of marks: closes in every place; room for just as many, for more and for one fewer.
+const MUST: [&str; 39] = [
     "1,000 of 2 held false infinite false",
     "1,000 of 2 held true infinite false",
     "1,000 of 2 held true infinite true",
@@ -366,11 +434,35 @@ const MUST: [&str; 17] = [
     "no room held 2",
     "whole held 2",
     "2 held, a move between true",
+    "MD marked 0, closings 0, NaN start false",
+    "MDZ marked 1, closings 1, NaN start false",
+    "MDZ marked 1, closings 0, NaN start false",
+    "MDZ marked 1, closings 0, NaN start true",
+    "MDZZ marked 1, closings 1, NaN start false",
+    "MDZD marked 0, closings 1, NaN start false",
+    "MDZDZ marked 1, closings 1, NaN start false",
+    "MZD marked 0, closings 0, NaN start false",
+    "MZDZ marked 1, closings 1, NaN start false",
+    "M without a polyline",
+    "MZ without a polyline",
+    "MZZ without a polyline",
+    "subpaths passed over between polylines 1",
+    "room for 1 marks of 1",
+    "room for 1 marks of 2",
+    "room for 2 marks of 1",
+    "room for 2 marks of 2",
+    "room for 2 marks of 3",
+    "cut with room for 1 marks of 1",
+    "whole with room for 1 marks of 2",
+    "no room in the scratch with room for 1 marks of 2",
+    "no room with room for 256 marks of 2",
 ];
 
 /// Cases that are drawn, by their numbers, and which of them are kept.
 struct Round {
     numbers: Range<u64>,
+    /// What is made of a random case.
+    made: fn(&mut Rng, Case) -> Case,
     /// The most words.
     words: usize,
     /// A thing is shown often enough by so many cases.
@@ -379,13 +471,17 @@ struct Round {
     new: usize,
 }
 
-const ROUNDS: [Round; 5] = [
-    Round { numbers: 0..60_000, words: 110, enough: 2, new: 0 },
-    Round { numbers: 60_000..200_000, words: 190, enough: 1, new: 0 },
-    Round { numbers: 200_000..260_000, words: 560, enough: 1, new: 2 },
-    Round { numbers: 260_000..300_000, words: 4000, enough: 1, new: 2 },
+const ROUNDS: [Round; 7] = [
+    Round { numbers: 0..60_000, made: |_, c| c, words: 170, enough: 2, new: 0 },
+    Round { numbers: 60_000..200_000, made: |_, c| c, words: 260, enough: 1, new: 0 },
+    Round { numbers: 200_000..260_000, made: |_, c| c, words: 640, enough: 1, new: 2 },
+    Round { numbers: 260_000..280_000, made: |_, c| c, words: 4100, enough: 1, new: 2 },
+    // A curve is just held back, or just isn't.
+    Round { numbers: 280_000..300_000, made: case::at_edge, words: 4100, enough: 1, new: 2 },
     // Only for what must be shown: two curves held back have 2,001 points at least, and fill a case.
-    Round { numbers: 300_000..340_000, words: 4096, enough: 1, new: usize::MAX },
+    Round { numbers: 300_000..340_000, made: case::at_edge, words: 4352, enough: 1, new: usize::MAX },
+    // Closes in every place.
+    Round { numbers: 340_000..360_000, made: case::strewn, words: 260, enough: 1, new: 0 },
 ];
 
 fn main() {
@@ -395,10 +491,8 @@ fn main() {
     let (mut kept, mut words) = (0, 0);
     for (number, round) in ROUNDS.iter().flat_map(|round| round.numbers.clone().map(move |n| (n, round))) {
         let r = &mut Rng::new(1, number);
-        let mut c = case::random(r, 24);
-        if number >= FIRST_AT_EDGE {
-            c = case::at_edge(r, c);
-        }
+        let c = case::random(r, 24);
+        let c = (round.made)(r, c);
         let Some(Answers { words: Words(w), shows }) = answered(&c, round.words) else { continue };
         let new: Vec<&str> = shows.iter().map(String::as_str).filter(|s| !seen.contains_key(*s)).collect();
         if new.len() < round.new && !new.iter().any(|s| MUST.contains(s)) {

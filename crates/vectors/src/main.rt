@@ -1,7 +1,8 @@
-// Replays answers of the Rust source, and of the list's maker, from the request, where the source does not say which curves are held back. Standard
-// input has a list of cases, made by `compare/vectors` (see there), in words of four bytes, low byte first. A case: how many words follow; tolerance,
-// phase and scale; the number of intervals, the intervals; the number of calls, the calls, seven words each; and then every answer in the order in
-// which `run` asks. A float is its pattern; every NaN is one here, since `from_bits` takes none. The number of each case that differs is written out.
+// Replays answers of the Rust source, and of the list's maker, from the requests, where the source does not say which curves are held back and which
+// polylines are closed. Standard input has a list of cases, made by `compare/vectors` (see there), in words of four bytes, low byte first. A case:
+// how many words follow; tolerance, phase and scale; the number of intervals, the intervals; the number of calls, the calls, seven words each; and
+// then every answer in the order in which `run` asks. A float is its pattern; every NaN is one here, since `from_bits` takes none. Floats, ends and
+// marks are lent as 77.5, 7777 and 165 where the list says what is left alone. The number of each case that differs is written out.
 ghost use Prim.Native.Nat.{_≤_, _<_};
 use builder::Call;
 use builder::CurrentPoint;
@@ -9,12 +10,13 @@ use builder::Note;
 use builder::PathBuilder;
 use convexity::answer::Convexity;
 use dash::Dashed;
+use flatten::Flattened;
 use path::FillRule;
 use path::Rect;
 use vec2::Vec2;
 
 // The most words of a case.
-const WORDS: usize = 4096;
+const WORDS: usize = 4352;
 
 // ---- reading
 
@@ -54,10 +56,10 @@ fn word_at(data: &[u32], i: usize) -> u32 {
 }
 
 fn count_at(data: &[u32], i: usize) -> usize
-    ensures { λ r. ⌜ r ≤ 4096 ⌝ }
+    ensures { λ r. ⌜ r ≤ 4352 ⌝ }
 {
     let n = word_at(data, i);
-    if n <= 4096 {
+    if n <= 4352 {
         return n as usize;
     }
     0
@@ -251,7 +253,7 @@ struct Built {
 
 // Plays n calls from word i on; of each, how many quads it laid, and that it wasn't refused.
 fn build(data: &[u32], i: usize, n: usize, t: Tape, verbs: &mut [u8], points: &mut [f32]) -> Built
-    requires { ⌜ (i ≤ 4096) × (n ≤ 4096) ⌝ }
+    requires { ⌜ (i ≤ 4352) × (n ≤ 4352) ⌝ }
 {
     let mut state = PathBuilder::new();
     let mut u = t;
@@ -321,19 +323,63 @@ fn ask_convexity(data: &[u32], t: Tape, verbs: &[u8], points: &[f32]) -> Tape {
     expect_convexity(data, u, cb)
 }
 
-fn ask_flatten(data: &[u32], t: Tape, verbs: &[u8], points: &[f32], tolerance: f32) -> Tape {
-    let mut out = [0.0f32; 4096];
-    let mut ends = [0usize; 256];
-    let mut marks = [0u8; 256];
-    let r = flatten::flatten(verbs, points, tolerance, &mut out, &mut ends, &mut marks);
+// As many of the first marks as the list has: the polylines', and of the bytes behind them two, or as many as are lent.
+fn expect_marks(data: &[u32], t: Tape, marks: &[u8]) -> Tape {
+    let n = count_at(data, t.at);
+    expect_bytes(data, t, first_bytes(marks, n))
+}
+
+// The front of the buffers that a flattening writes: a point, an end and the marks.
+fn expect_front(data: &[u32], t: Tape, out: &[f32], ends: &[usize], marks: &[u8]) -> Tape {
+    let u = expect_floats(data, t, first_some(out, 2));
+    let v = expect_counts(data, u, first_counts(ends, 1));
+    expect_marks(data, v, marks)
+}
+
+fn expect_totals(data: &[u32], t: Tape, r: Flattened) -> Tape {
     let mut u = expect(data, t, wide(r.refused));
     u = expect_count(data, u, r.starts);
     u = expect_count(data, u, r.lines);
     u = expect_count(data, u, r.counts);
     u = expect_count(data, u, r.closings);
-    u = expect_count(data, u, r.held);
-    u = expect_floats(data, u, first_points(&out, r.points));
-    expect_counts(data, u, first_counts(&ends, r.polylines))
+    expect_count(data, u, r.held)
+}
+
+// Flattens with room for every mark.
+fn ask_flatten(data: &[u32], t: Tape, verbs: &[u8], points: &[f32], tolerance: f32) -> Tape {
+    let mut out = [0.0f32; 4096];
+    let mut ends = [0usize; 256];
+    let mut marks = [165u8; 256];
+    let r = flatten::flatten(verbs, points, tolerance, &mut out, &mut ends, &mut marks);
+    let u = expect_totals(data, t, r);
+    let v = expect_floats(data, u, first_points(&out, r.points));
+    let w = expect_counts(data, v, first_counts(&ends, r.polylines));
+    expect_marks(data, w, &marks)
+}
+
+// Flattens with room for as many marks as `marks` takes. Where there are more polylines, 3, and every buffer is as it was.
+fn ask_room(
+    data: &[u32],
+    t: Tape,
+    verbs: &[u8],
+    points: &[f32],
+    tolerance: f32,
+    marks: &mut [u8],
+) -> Tape {
+    let mut out = [77.5f32; 4096];
+    let mut ends = [7777usize; 256];
+    let r = flatten::flatten(verbs, points, tolerance, &mut out, &mut ends, marks);
+    let u = expect(data, t, wide(r.refused));
+    let v = expect_count(data, u, r.polylines);
+    expect_front(data, v, &out, &ends, marks)
+}
+
+// Flattens with room for one mark, and again with room for two.
+fn ask_rooms(data: &[u32], t: Tape, verbs: &[u8], points: &[f32], tolerance: f32) -> Tape {
+    let mut one = [165u8; 1];
+    let mut two = [165u8; 2];
+    let u = ask_room(data, t, verbs, points, tolerance, &mut one);
+    ask_room(data, u, verbs, points, tolerance, &mut two)
 }
 
 // The N of every verb, and whether it was held back.
@@ -368,7 +414,8 @@ fn expect_dashed(data: &[u32], t: Tape, d: Dashed, laid: &[u8], drawn: &[f32]) -
     }
 }
 
-// Dashes with room for as many verbs as `laid` takes.
+// Dashes with room for as many verbs as `laid` takes and for as many of the scratch's marks as `marks` takes. The scratch is left alone where the
+// path is drawn whole or the scratch is too small, and holds the flattened path where it is cut or the dash buffers are too small.
 fn ask_dash(
     data: &[u32],
     t: Tape,
@@ -377,11 +424,12 @@ fn ask_dash(
     rule: FillRule,
     intervals: &[f32],
     laid: &mut [u8],
+    marks: &mut [u8],
 ) -> Tape {
     let tolerance = float_at(data, 0);
     let phase = float_at(data, 1);
-    let mut scratch = [0.0f32; 4096];
-    let mut ends = [0usize; 256];
+    let mut scratch = [77.5f32; 4096];
+    let mut ends = [7777usize; 256];
     let mut drawn = [0.0f32; 4096];
     let d = dash::dash_path(
         verbs,
@@ -392,13 +440,30 @@ fn ask_dash(
         tolerance,
         &mut scratch,
         &mut ends,
+        marks,
         laid,
         &mut drawn,
     );
-    expect_dashed(data, t, d, laid, &drawn)
+    let u = expect_dashed(data, t, d, laid, &drawn);
+    expect_front(data, u, &scratch, &ends, marks)
 }
 
-// Whether the pattern is usable; dashes with room for every verb, and again with room for one, which mostly meets the second 3.
+// Dashes with room for as many verbs as `laid` takes and for every mark.
+fn ask_laid(
+    data: &[u32],
+    t: Tape,
+    verbs: &[u8],
+    points: &[f32],
+    rule: FillRule,
+    intervals: &[f32],
+    laid: &mut [u8],
+) -> Tape {
+    let mut marks = [165u8; 256];
+    ask_dash(data, t, verbs, points, rule, intervals, laid, &mut marks)
+}
+
+// Whether the pattern is usable; dashes with room for every verb and mark, again with room for one verb, which mostly meets the second 3, and again
+// with room for one mark, where two polylines meet the first.
 fn ask_dashes(
     data: &[u32],
     t: Tape,
@@ -409,10 +474,22 @@ fn ask_dashes(
 ) -> Tape {
     let mut many = [0u8; 2048];
     let mut one = [0u8; 1];
+    let mut again = [0u8; 2048];
+    let mut mark = [165u8; 1];
     let usable = pattern::is_usable(intervals, float_at(data, 1));
     let u = expect_flag(data, t, usable);
-    let v = ask_dash(data, u, verbs, points, rule, intervals, &mut many);
-    ask_dash(data, v, verbs, points, rule, intervals, &mut one)
+    let v = ask_laid(data, u, verbs, points, rule, intervals, &mut many);
+    let w = ask_laid(data, v, verbs, points, rule, intervals, &mut one);
+    ask_dash(
+        data,
+        w,
+        verbs,
+        points,
+        rule,
+        intervals,
+        &mut again,
+        &mut mark,
+    )
 }
 
 // Fills the pattern from word i on.
@@ -449,6 +526,7 @@ fn ask(
     u = ask_bounds(data, u, verbs, points);
     u = ask_convexity(data, u, verbs, points);
     u = ask_flatten(data, u, verbs, points, tolerance);
+    u = ask_rooms(data, u, verbs, points, tolerance);
     u = ask_counts(data, u, verbs, points, tolerance);
     u = ask_dashes(data, u, verbs, points, rule, intervals);
     expect_float(data, u, curve::tolerance_for_scale(tolerance, scale))
@@ -486,7 +564,7 @@ fn say(n: u64, what: &[u8]) {
 
 fn main() {
     let mut head = [0u32; 1];
-    let mut data = [0u32; 4096];
+    let mut data = [0u32; 4352];
     let mut cases: u64 = 0;
     let mut right: u64 = 0;
     while cases < 100000 {
@@ -505,5 +583,5 @@ fn main() {
         }
     }
     say(cases, b" cases\n");
-    say(right, b" as the source and the request have it\n");
+    say(right, b" as the source and the requests have it\n");
 }

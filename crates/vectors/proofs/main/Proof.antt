@@ -7,7 +7,7 @@ use Rattle.vectors.proofs.main.Statement.{statement}
 use Rattle.vectors.proofs.main.Tie as tie
 
 abbrev Inv-loop : tie.InvT-loop
-Inv-loop head₀ data₀ cases₀ right₀ t6 t7 t8 head «data» cases right = (length head ≡ 1) × (length «data» ≡ 4096) × (cases ≤ 100000) × (right ≤ cases)
+Inv-loop head₀ data₀ cases₀ right₀ t6 t7 t8 head «data» cases right = (length head ≡ 1) × (length «data» ≡ 4352) × (cases ≤ 100000) × (right ≤ cases)
 
 abbrev μ-loop : tie.MeasureT-loop
 μ-loop head₀ data₀ cases₀ right₀ t6 t7 t8 head «data» cases right = 100000 - cases
