@@ -720,7 +720,7 @@ fn flattening(g: &Given, tolerance: f32, flat: Option<&Flat>, room: Room) -> Che
     out.all("flattened")
 }
 
-/// The N of every verb and whether it was held back, past the end nothing; and the verbs of all curves held back, which the Rust interface lists.
+/// The N of every verb and whether it was held back, past the end nothing.
 fn carried(g: &Given, tolerance: f32, flat: &Flat) -> Checked {
     for i in (0..g.verbs.len() + 2).chain([usize::MAX]) {
         // SAFETY: the path is read.
@@ -728,7 +728,17 @@ fn carried(g: &Given, tolerance: f32, flat: &Flat) -> Checked {
         let want = flat.each.get(i).copied().flatten().map_or((0, false), |(n, s)| (n, held::held(s)));
         equal("carried count", (got.refused, got.count, got.held), (0, want.0, want.1))?;
     }
-    equal("held curves", held_curves(&g.checked(), tolerance), held::curves(&flat.each))
+    Ok(())
+}
+
+/// What the Rust interface says of an accepted path: the verbs of all curves held back, and which polylines are closed.
+fn told_in_rust(g: &Given, tolerance: f32, flat: &Flat) -> Checked {
+    let path = g.checked();
+    equal("held curves", held_curves(&path, tolerance), held::curves(&flat.each))?;
+    let lines = hizlaou::flatten(&path, tolerance).expect("it lends the room itself");
+    equal("marks in Rust", lines.marks(), flat.marks.as_slice())?;
+    let closed: Vec<bool> = flat.marks.iter().map(|mark| *mark == 1).collect();
+    equal("closed in Rust", lines.closed().collect(), closed)
 }
 
 struct Cut {
@@ -1092,6 +1102,7 @@ pub fn case(c: &Case) -> Checked {
     let (flat, polylines) = reference_flat(&path, c.tolerance);
     flattening(&given, c.tolerance, Some(&flat), Room::near(r, flat.points.len(), flat.ends.len()))?;
     carried(&given, c.tolerance, &flat)?;
+    told_in_rust(&given, c.tolerance, &flat)?;
     dashed(r, c, b, &given, &flat, &polylines)?;
     if r.one_in(8) {
         // over 64 intervals, on a path that may be refused for other reasons first
