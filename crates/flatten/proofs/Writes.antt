@@ -1,8 +1,8 @@
 -- The writing pass: points and ends stored one behind the other. Assumes nothing.
 use mathlib.Core.Path.{_≡_, refl, sym, ap, _∙_}
-use mathlib.Core.Bool.{Bool, true, false, not}
+use mathlib.Core.Bool.{Bool, true, false, not, _&&_, false≢true}
 use mathlib.Core.List.{List, [], _∷_, _++_, append-nil}
-use Prim.Native.Nat.{ℕ, suc, pred, _+_, _*_, _≤_, _<_}
+use Prim.Native.Nat.{ℕ, zero, suc, pred, _+_, _-_, _*_, _≤_, _<_}
 use native.Mathlib.Numerals.{add-one}
 use native.Mathlib.Omega.{arith}
 use lib.ListN.{length, getD, drop, drop-of-length-le, length-append}
@@ -13,7 +13,7 @@ use Rattle.vec2.specs.Points.{flat}
 use Rattle.vec2.proofs.Points.{flat-append, length-flat, sets-append}
 use Rattle.path.specs.declared.Segment.{Segment}
 use Rattle.path.specs.declared.Segment.the-variants.{Move, Line, Quad, Cubic, Close}
-use Rattle.path.specs.Segment.{isClose, used, segAt, segments}
+use Rattle.path.specs.Segment.{isMove, isClose, used, segAt, segments}
 use Rattle.path.specs.Check.{usedBy}
 use Rattle.path.proofs.Steps.{left, next-left, used-turn}
 use Rattle.float.specs.declared.SegmentCount.{SegmentCount}
@@ -21,11 +21,12 @@ use Rattle.float.specs.Count.{segmentAnswer}
 use Rattle.curve.specs.Count.{quadS, cubicS, quadCount, cubicCount, evalQuad, evalCubic, param}
 use Rattle.curve.proofs.Numbers.{counted}
 use Rattle.flatten.specs.declared.Spot.{Spot}
-use Rattle.flatten.specs.Flatten.{movedTo, drawnTo, closeAdds, afterClose, after, stops, onlyIf, places, steps, curved, body, writes, written, endings, pointsOut, endsOut}
-use Rattle.flatten.specs.Steps.{begun, quadPoints, cubicPoints, Wrote, marksFrom, Ended}
+use Rattle.flatten.specs.Flatten.{nowhere, movedTo, drawnTo, closeAdds, afterClose, after, stops, onlyIf, places, steps, curved, body, writes, written, endings, pointsOut, endsOut}
+use Rattle.flatten.specs.Steps.{begun, quadPoints, cubicPoints, Wrote, marksFrom, closeBefore, Ended}
 use Rattle.flatten.specs.Subpaths.{mark, marksOut}
 use Rattle.flatten.proofs.Points.{length-steps}
 use Rattle.flatten.proofs.Lengths.{length-onlyIf}
+use Rattle.flatten.proofs.Subpaths.{marks-are}
 
 -- ---- one after the other
 
@@ -113,25 +114,76 @@ module _ (tol : Float) (w : Spot) (s : Segment) where
   unfolding after
   to-close e h = rw e h
 
+-- ---- the verb before verb i
+
+second : (a b : Bool) → (a && b) ≡ true → b ≡ true
+second true b h = h
+second false b h = absurd (false≢true h)
+
+-- a verb is a close or none, wherever its points stand
+close-any : (v : ℕ) (fs : List Float) (k : ℕ) → isClose (segAt v [] 0) ≡ isClose (segAt v fs k)
+close-any zero fs k = refl
+close-any (suc zero) fs k = refl
+close-any (suc (suc zero)) fs k = refl
+close-any (suc (suc (suc zero))) fs k = refl
+close-any (suc (suc (suc (suc v)))) fs k = refl
+
+pub close-read : (vs : List ℕ) (i : ℕ) (fs : List Float) (k : ℕ) (s : Segment) → s ≡ segAt (getD vs i 0) fs k → closeBefore vs (i + 1) ≡ isClose s
+close-read vs i fs k s e =
+    let j : i + 1 - 1 ≡ i = omega arith in
+    rw j (close-any (getD vs i 0) fs k ∙ sym (ap isClose e))
+
+-- by its byte
+pub none-below : (v : ℕ) → v < 4 → isClose (segAt v [] 0) ≡ false
+none-below zero h = refl
+none-below (suc zero) h = refl
+none-below (suc (suc zero)) h = refl
+none-below (suc (suc (suc zero))) h = refl
+none-below (suc (suc (suc (suc v)))) h = absurd (omega (arith, h))
+
+pub close-from : (v : ℕ) → 4 ≤ v → isClose (segAt v [] 0) ≡ true
+close-from zero h = absurd (omega (arith, h))
+close-from (suc zero) h = absurd (omega (arith, h))
+close-from (suc (suc zero)) h = absurd (omega (arith, h))
+close-from (suc (suc (suc zero))) h = absurd (omega (arith, h))
+close-from (suc (suc (suc (suc v)))) h = refl
+
+-- at the start no verb is read, and none is asked for
+pub marks-begin : (shut : Bool) (ss : List Segment) → marksFrom shut nowhere ss ≡ marksOut ss
+unfolding marksFrom
+marks-begin shut ss = any ss ∙ marks-are ss
+  where
+    none : (a : Bool) → (a && false) ≡ false
+    none true = refl
+    none false = refl
+
+    any : (ss : List Segment) → marksFrom shut nowhere ss ≡ marksFrom false nowhere ss
+    any [] = refl
+    any (s ∷ ss) = rw (none (isMove s))
+
 -- ---- the writing loop
 
--- With i verbs read, k points used, n points written and m polylines ended, `shut` the last verb's, what the rest would still write over the buffers as they are
--- gives what the whole gives.
-pub record Writing (vs : List ℕ) (fs : List Float) (tol : Float) (out₀ : List Float) (es₀ ms₀ : List ℕ) (w : Spot) (i k n m : ℕ) (shut : Bool) (out : List Float) (ends flags : List ℕ) : Type 0 where
+-- With i verbs read, k points used, n points written and m polylines ended, what the rest would still write over the buffers as they are gives what the whole
+-- gives.
+pub record Writing (vs : List ℕ) (fs : List Float) (tol : Float) (out₀ : List Float) (es₀ ms₀ : List ℕ) (w : Spot) (i k n m : ℕ) (out : List Float) (ends flags : List ℕ) : Type 0 where
   pub here : i ≤ length vs
+  pub behind : w .drawn ≡ true → 1 ≤ i
   pub reads : 2 * (k + usedBy (drop i vs)) ≤ length fs
   pub same-out : length out ≡ length out₀
   pub same-ends : length ends ≡ length es₀
   pub same-marks : length flags ≡ length ms₀
   pub room : 2 * (n + length (written tol w (left vs fs i k))) ≤ length out₀
   pub room-ends : m + length (endings tol n w (left vs fs i k)) ≤ length es₀
-  pub room-marks : m + length (marksFrom shut w (left vs fs i k)) ≤ length ms₀
+  pub room-marks : m + length (marksFrom (closeBefore vs i) w (left vs fs i k)) ≤ length ms₀
   pub points : sets out (2 * n) (flat (written tol w (left vs fs i k))) ≡ sets out₀ 0 (flat (pointsOut tol (segments vs fs)))
   pub polys : sets ends m (endings tol n w (left vs fs i k)) ≡ sets es₀ 0 (endsOut tol (segments vs fs))
-  pub marked : sets flags m (marksFrom shut w (left vs fs i k)) ≡ sets ms₀ 0 (marksOut (segments vs fs))
+  pub marked : sets flags m (marksFrom (closeBefore vs i) w (left vs fs i k)) ≡ sets ms₀ 0 (marksOut (segments vs fs))
 
-module _ {vs : List ℕ} {fs : List Float} {tol : Float} {out₀ : List Float} {es₀ ms₀ : List ℕ} {w : Spot} {i k n m : ℕ} {shut : Bool} {out : List Float} {ends flags : List ℕ}
-    (g : Writing vs fs tol out₀ es₀ ms₀ w i k n m shut out ends flags) where
+module _ {vs : List ℕ} {fs : List Float} {tol : Float} {out₀ : List Float} {es₀ ms₀ : List ℕ} {w : Spot} {i k n m : ℕ} {out : List Float} {ends flags : List ℕ}
+    (g : Writing vs fs tol out₀ es₀ ms₀ w i k n m out ends flags) where
+  abbrev shut : Bool
+  shut = closeBefore vs i
+
   module _ (h : i < length vs) (s : Segment) (es : s ≡ segAt (getD vs i 0) fs k) where
     next-written : written tol w (left vs fs i k) ≡ writes tol w s ++ written tol (after w s) (left vs fs (suc i) (k + used (getD vs i 0)))
     unfolding written
@@ -156,20 +208,27 @@ module _ {vs : List ℕ} {fs : List Float} {tol : Float} {out₀ : List Float} {
     same-many : length (onlyIf (stops w s) (mark shut)) ≡ length (onlyIf (stops w s) n)
     same-many = length-onlyIf (stops w s) (mark shut) ∙ sym (length-onlyIf (stops w s) n)
 
-    pub turn-ends : (b : Bool) → b ≡ stops w s → (m + length (onlyIf b n) ≤ length ends) × (m + length (onlyIf b n) ≤ length flags)
-    turn-ends b e = rw e (
-      omega (arith, g .room-ends, g .same-ends, simp length-append at (ap length next-endings)),
-      omega (arith, g .room-marks, g .same-marks, same-many, simp length-append at (ap length next-marks)),
+    -- what ends a polyline stands behind a verb
+    stopped : (b : Bool) → b ≡ stops w s → b ≡ true → (1 ≤ i) × (i ≤ length vs)
+    stopped b e t = (g .behind (second (isMove s) (w .drawn) (sym e ∙ t)), g .here)
+
+    pub turn-ends : (b : Bool) → b ≡ stops w s → (b ≡ true → (1 ≤ i) × (i ≤ length vs)) × (m + length (onlyIf b n) ≤ length ends) × (m + length (onlyIf b n) ≤ length flags)
+    turn-ends b e = (
+      stopped b e,
+      rw e (omega (arith, g .room-ends, g .same-ends, simp length-append at (ap length next-endings))),
+      rw e (omega (arith, g .room-marks, g .same-marks, same-many, simp length-append at (ap length next-marks))),
     )
 
     pub turn : (b : Bool) → b ≡ stops w s → {es' ms' : List ℕ} {m' : ℕ} → Ended ends es' flags ms' m m' b n (mark shut) →
         {out' : List Float} {n' : ℕ} → Wrote out out' n n' (writes tol w s) →
-        (v : Spot) → v ≡ after w s → (shut' : Bool) → shut' ≡ isClose s → (u : ℕ) → u ≡ used (getD vs i 0) → Writing vs fs tol out₀ es₀ ms₀ v (i + 1) (k + u) n' m' shut' out' es' ms'
-    turn b eb {es'} {ms'} {m'} e {out'} {n'} p v ev shut' ec u eu =
+        (v : Spot) → v ≡ after w s → (u : ℕ) → u ≡ used (getD vs i 0) → Writing vs fs tol out₀ es₀ ms₀ v (i + 1) (k + u) n' m' out' es' ms'
+    turn b eb {es'} {ms'} {m'} e {out'} {n'} p v ev u eu =
+        let ec : closeBefore vs (i + 1) ≡ isClose s = close-read vs i fs k s es in
         let f : 2 * n + length (flat (writes tol w s)) ≡ 2 * (n + length (writes tol w s)) = omega (arith, length-flat (writes tol w s)) in
         let l : m + length (onlyIf (stops w s) (mark shut)) ≡ m + length (onlyIf (stops w s) n) = ap (λ (x : ℕ). m + x) same-many in
         record {
           here = omega arith;
+          behind = λ t. omega arith;
           reads = omega (arith, g .reads, used-turn vs i h);
           same-out = ap length (p .stored) ∙ simp length-sets (g .same-out);
           same-ends = ap length (e .ended) ∙ simp length-sets (g .same-ends);
@@ -199,8 +258,8 @@ module _ {vs : List ℕ} {fs : List Float} {tol : Float} {out₀ : List Float} {
     unfolding marksFrom
     last-mark = rw (drop-of-length-le vs h)
 
-    pub last-room : (m + length (onlyIf (w .drawn) n) ≤ length ends) × (m + length (onlyIf (w .drawn) n) ≤ length flags)
-    last-room = (omega (arith, g .room-ends, g .same-ends, ap length last-ending), omega (arith, g .room-marks, g .same-marks, length-onlyIf (w .drawn) (mark shut), length-onlyIf (w .drawn) n, ap length last-mark))
+    pub last-room : (w .drawn ≡ true → (1 ≤ i) × (i ≤ length vs)) × (m + length (onlyIf (w .drawn) n) ≤ length ends) × (m + length (onlyIf (w .drawn) n) ≤ length flags)
+    last-room = ((λ t. (g .behind t, g .here)), omega (arith, g .room-ends, g .same-ends, ap length last-ending), omega (arith, g .room-marks, g .same-marks, length-onlyIf (w .drawn) (mark shut), length-onlyIf (w .drawn) n, ap length last-mark))
 
     pub last-points : out ≡ sets out₀ 0 (flat (pointsOut tol (segments vs fs)))
     last-points = rw none-written at (g .points)

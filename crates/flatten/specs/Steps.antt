@@ -1,16 +1,16 @@
 -- What the inner functions promise: the measuring pass, and points, ends and marks stored one behind the other; and the one pass by which the marks are read.
 -- Definitions only.
 use mathlib.Core.Path.{_≡_}
-use Prim.Native.Nat.{ℕ, _+_, _*_, _≤_}
+use Prim.Native.Nat.{ℕ, _+_, _-_, _*_, _≤_}
 use mathlib.Core.Bool.{Bool, not}
 use mathlib.Core.List.{List, [], _∷_, _++_}
-use lib.ListN.{length}
+use lib.ListN.{length, getD}
 use lib.Seq.{sets}
 use lib.Ieee.{Float}
 use Rattle.vec2.specs.declared.Vec2.{Vec2}
 use Rattle.vec2.specs.Points.{flat}
 use Rattle.path.specs.declared.Segment.{Segment}
-use Rattle.path.specs.Segment.{isLine, isClose}
+use Rattle.path.specs.Segment.{isLine, isClose, segAt}
 use Rattle.curve.specs.Count.{quadCount, cubicCount, evalQuad, evalCubic}
 use Rattle.flatten.specs.declared.Spot.{Spot}
 use Rattle.flatten.specs.declared.Tally.{Tally}
@@ -100,6 +100,10 @@ pub record Wrote (before left : List Float) (at next : ℕ) (ps : List Vec2) : T
 unfoldable pub marksFrom : Bool → Spot → List Segment → List ℕ
 marksFrom shut w [] = onlyIf (w .drawn) (mark shut)
 marksFrom shut w (s ∷ ss) = onlyIf (stops w s) (mark shut) ++ marksFrom (isClose s) (after w s) ss
+
+-- whether the verb before verb i is a close
+abbrev pub closeBefore : List ℕ → ℕ → Bool
+closeBefore vs i = isClose (segAt (getD vs (i - 1) 0) [] 0)
 
 -- an end and its mark stored at place `at`, if they are wanted, and the place behind them
 pub record Ended (ends ends' marks marks' : List ℕ) (at next : ℕ) (wanted : Bool) (n m : ℕ) : Type 0 where

@@ -1,16 +1,18 @@
-// Flattening: a path's polylines as points, end to end, the number where each ends, and its mark: whether it is closed (W4). Measured first, written after.
+// Flattening: a path's polylines as points, end to end, the number where each ends, and its mark, which says whether it is closed (W4). Measured first, written
+// after.
 ghost use mathlib.Core.Path.{_≡_};
+ghost use mathlib.Core.Bool.{true};
 ghost use mathlib.Core.List.{_∷_, []};
 ghost use Prim.Native.Nat.{_+_, _*_, _≤_};
 ghost use lib.ListN.{length};
 ghost use lib.Seq.{sets};
 ghost use Rattle.vec2.specs.Points.{flat};
-ghost use Rattle.path.specs.Segment.{isClose, segments};
+ghost use Rattle.path.specs.Segment.{isClose, segAt, segments};
 ghost use Rattle.path.specs.Check.{usedBy};
 ghost use Rattle.curve.specs.Count.{evalQuad, evalCubic};
 ghost use Rattle.flatten.specs.Subpaths.{mark, marksOut};
 ghost use Rattle.flatten.specs.Flatten.{nowhere, closeAdds, movedTo, drawnTo, afterClose, after, stops, one, onlyIf, curveAnswer, curved, writes, pointsOut, endsOut, outcome, refusedBy, flatten, noCount, countAt, carriedCount};
-ghost use Rattle.flatten.specs.Steps.{none, drawnMore, closedMore, gauged, measured, Small, begun, quadPoints, cubicPoints, Wrote, Ended};
+ghost use Rattle.flatten.specs.Steps.{none, drawnMore, closedMore, gauged, measured, Small, begun, quadPoints, cubicPoints, Wrote, closeBefore, Ended};
 use float::SegmentCount;
 use path::Cursor;
 use path::Segment;
@@ -62,11 +64,10 @@ pub struct Gauge {
     pub spot: Spot,
 }
 
-// How far the writing is: the points that are written, where the flattening stands, and whether the verb read last is a close.
+// How far the writing is: the points that are written, and where the flattening stands.
 pub struct Trace {
     pub at: usize,
     pub spot: Spot,
-    pub shut: bool,
 }
 
 // ---- where a flattening stands
@@ -392,24 +393,22 @@ fn draw_cubic(
     a + n as usize
 }
 
-// Writes what a segment writes from point `at` on. Points, place and close go by one `match`, as in measuring.
+// Writes what a segment writes from point `at` on. Points and place go by one `match`, as in measuring.
 fn write_segment(out: &mut [f32], at: usize, tolerance: f32, w: Spot, s: Segment) -> Trace
     requires { ⌜ 2 * (at + length (writes tolerance w s)) ≤ length (now out) ⌝ }
-    ensures { λ r. ⌜ Wrote (now (out .entry)) (now (out .exit)) at (r .at) (writes tolerance w s) × (r .spot ≡ after w s) × (r .shut ≡ isClose s) ⌝ }
+    ensures { λ r. ⌜ Wrote (now (out .entry)) (now (out .exit)) at (r .at) (writes tolerance w s) × (r .spot ≡ after w s) ⌝ }
 {
     let start = w.start;
     match s {
         Segment::Move(p) => Trace {
             at,
             spot: move_to(p),
-            shut: false,
         },
         Segment::Line(p) => {
             let n = draw_line(out, at, w, p);
             Trace {
                 at: n,
                 spot: drawn_to(w, p),
-                shut: false,
             }
         }
         Segment::Quad(c, p) => {
@@ -417,7 +416,6 @@ fn write_segment(out: &mut [f32], at: usize, tolerance: f32, w: Spot, s: Segment
             Trace {
                 at: n,
                 spot: drawn_to(w, p),
-                shut: false,
             }
         }
         Segment::Cubic(c, d, p) => {
@@ -425,7 +423,6 @@ fn write_segment(out: &mut [f32], at: usize, tolerance: f32, w: Spot, s: Segment
             Trace {
                 at: n,
                 spot: drawn_to(w, p),
-                shut: false,
             }
         }
         Segment::Close => {
@@ -434,34 +431,35 @@ fn write_segment(out: &mut [f32], at: usize, tolerance: f32, w: Spot, s: Segment
             Trace {
                 at: n,
                 spot: close(w),
-                shut: true,
             }
         }
     }
 }
 
-// A polyline's mark, by whether the last verb of its subpath is a close.
-fn mark(shut: bool) -> u8
-    ensures { λ r. ⌜ r ≡ mark shut ⌝ }
+// The mark of a subpath whose last verb has this byte.
+fn mark(verb: u8) -> u8
+    ensures { λ r. ⌜ r ≡ mark (isClose (segAt verb [] 0)) ⌝ }
 {
-    if shut { 1 } else { 0 }
+    if verb < 4 { 0 } else { 1 }
 }
 
-// Notes that a polyline ends at n points, with its mark, if one does, and says where the next note goes.
+// Notes that a polyline ends at n points, with its mark, if one does, and says where the next note goes. Its subpath ends before verb i, and its last verb is
+// read just for this: a flag kept from verb to verb is slower.
 fn end_if(
+    verbs: &[u8],
+    i: usize,
     ends: &mut [usize],
     marks: &mut [u8],
     k: usize,
     wanted: bool,
     n: usize,
-    shut: bool,
 ) -> usize
-    requires { ⌜ (k + length (onlyIf wanted n) ≤ length (now ends)) × (k + length (onlyIf wanted n) ≤ length (now marks)) ⌝ }
-    ensures { λ r. ⌜ Ended (now (ends .entry)) (now (ends .exit)) (now (marks .entry)) (now (marks .exit)) k r wanted n (mark shut) ⌝ }
+    requires { ⌜ (wanted ≡ true → (1 ≤ i) × (i ≤ length (now verbs))) × (k + length (onlyIf wanted n) ≤ length (now ends)) × (k + length (onlyIf wanted n) ≤ length (now marks)) ⌝ }
+    ensures { λ r. ⌜ Ended (now (ends .entry)) (now (ends .exit)) (now (marks .entry)) (now (marks .exit)) k r wanted n (mark (closeBefore (now (verbs .entry)) i)) ⌝ }
 {
     if wanted {
         ends[k] = n;
-        marks[k] = mark(shut);
+        marks[k] = mark(verbs[i - 1]);
         return k + 1;
     }
     k
@@ -486,19 +484,17 @@ fn write_path(
     let mut c = Cursor { verb: 0, point: 0 };
     let mut at: usize = 0;
     let mut k: usize = 0;
-    let mut shut = false;
     loop {
         let step = path::next(verbs, points, c);
         let Step::Next(s, d) = step else {
-            end_if(ends, marks, k, w.drawn, at, shut);
+            end_if(verbs, c.verb, ends, marks, k, w.drawn, at);
             return;
         };
         let stopped = ends_polyline(w, s);
-        k = end_if(ends, marks, k, stopped, at, shut);
+        k = end_if(verbs, c.verb, ends, marks, k, stopped, at);
         let r = write_segment(out, at, tolerance, w, s);
         at = r.at;
         w = r.spot;
-        shut = r.shut;
         c = d;
     }
 }

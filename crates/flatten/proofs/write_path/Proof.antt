@@ -1,22 +1,23 @@
 use mathlib.Core.Path.{refl, ap}
+use mathlib.Core.Bool.{false≢true}
 use Prim.Native.Nat.{_-_, _≤_}
 use native.Mathlib.Omega.{arith}
 use lib.ListN.{length}
 use lib.Seq.{sets}
 use Rattle.path.specs.Segment.{segments}
 use native.Mathlib.Nat.{zero-add}
-use Rattle.flatten.proofs.Writes.{Writing, turn-room, turn-ends, turn, last-room, last-points, last-ends, last-marks}
-use Rattle.flatten.proofs.Subpaths.{marks-are}
+use Rattle.flatten.proofs.Writes.{marks-begin, Writing, turn-room, turn-ends, turn, last-room, last-points, last-ends, last-marks}
+use Rattle.flatten.specs.Steps.{closeBefore}
 use Rattle.path.proofs.Steps.{Stepped, stepped, ended}
 use borrow.Author.Needs.{needs}
 use Rattle.flatten.proofs.write_path.Statement.{statement}
 use Rattle.flatten.proofs.write_path.Tie as tie
 
 abbrev Inv-loop : tie.InvT-loop
-Inv-loop verbs points tolerance out₀ ends₀ marks₀ w₀ c₀ at₀ m₀ shut₀ out ends marks w c at m shut = Writing verbs points tolerance out₀ ends₀ marks₀ w (c .verb) (c .point) at m shut out ends marks
+Inv-loop verbs points tolerance out₀ ends₀ marks₀ w₀ c₀ at₀ m₀ out ends marks w c at m = Writing verbs points tolerance out₀ ends₀ marks₀ w (c .verb) (c .point) at m out ends marks
 
 abbrev μ-loop : tie.MeasureT-loop
-μ-loop verbs points tolerance out₀ ends₀ marks₀ w₀ c₀ at₀ m₀ shut₀ out ends marks w c at m shut = length verbs - c .verb
+μ-loop verbs points tolerance out₀ ends₀ marks₀ w₀ c₀ at₀ m₀ out ends marks w c at m = length verbs - c .verb
 
 -- the segment that a turn takes
 here : (c : tie.After-known-told Inv-loop μ-loop) →
@@ -36,16 +37,17 @@ loop-holds c =
     rw (c .start-of-path .ensures)
     (record {
       here = omega arith;
+      behind = λ t. absurd (false≢true t);
       reads = simp zero-add (omega arith);
       same-out = refl;
       same-ends = refl;
       same-marks = refl;
       room = simp zero-add (omega arith);
       room-ends = simp zero-add (omega arith);
-      room-marks = simp zero-add (omega (arith, ap length (marks-are (segments (a .verbs .now) (a .points .now)))));
+      room-marks = simp zero-add (omega (arith, ap length (marks-begin (closeBefore (a .verbs .now) 0) (segments (a .verbs .now) (a .points .now)))));
       points = refl;
       polys = refl;
-      marked = ap (sets (a .marks .now) 0) (marks-are (segments (a .verbs .now) (a .points .now)));
+      marked = ap (sets (a .marks .now) 0) (marks-begin (closeBefore (a .verbs .now) 0) (segments (a .verbs .now) (a .points .now)));
     })
 
 next-requires : tie.Need-next-requires Inv-loop μ-loop
@@ -93,7 +95,7 @@ loop-again c =
     let g = here (c .before .before .before .before .before .before .before .before .before .before .before .before .before) in
     rw (g .cursor)
     (turn (c .before .before .before .before .before .before .before .before .before .before .before .before .before .before .before .before .before .loop .inv) (g .inside) _ (g .segment) _ (c .before .before .before .before .before .before .before .before .before .before .before .before .ends-polyline .ensures) (c .before .before .before .before .before .before .before .before .before .end-if2 .ensures)
-    (c .before .before .before .write-segment .ensures .0) _ (c .before .before .before .write-segment .ensures .1) _ (c .before .before .before .write-segment .ensures .2) _ refl)
+    (c .before .before .before .write-segment .ensures .0) _ (c .before .before .before .write-segment .ensures .1) _ refl)
 
 pub write-path-spec : {M : Type 1} → statement M
 write-path-spec =

@@ -1,7 +1,6 @@
-use mathlib.Core.Path.{refl, sym, ap}
+use mathlib.Core.Path.{refl, ap}
 use native.Mathlib.Omega.{arith}
 use lib.ListN.{length}
-use Rattle.path.specs.Segment.{isClose}
 use Rattle.flatten.proofs.Writes.{as-move, as-line, as-quad, as-cubic, as-close, to-move, to-line, to-quad, to-cubic, to-close}
 use borrow.Author.Needs.{needs}
 use Rattle.flatten.proofs.write_segment.Statement.{statement}
@@ -53,31 +52,31 @@ close-requires : tie.Need-close-requires
 close-requires c κs = search needs
 
 returns : tie.Need-returns
-returns c = let a = c .before .before .before .before .before .before .args in (rw (as-move (a .tolerance) (a .w) (a .s) _ (c .before .before .s .given .1)) (record { stored = refl; moved = omega arith }), to-move (a .tolerance) (a .w) (a .s) _ (c .before .before .s .given .1) (c .move-to .ensures), sym (ap isClose (c .before .before .s .given .1)))
+returns c = let a = c .before .before .before .before .before .before .args in (rw (as-move (a .tolerance) (a .w) (a .s) _ (c .before .before .s .given .1)) (record { stored = refl; moved = omega arith }), to-move (a .tolerance) (a .w) (a .s) _ (c .before .before .s .given .1) (c .move-to .ensures))
 
 same-length : tie.Need-same-length
 same-length c = search needs
 
 returns-2 : tie.Need-returns-2
-returns-2 c = let a = c .before .before .before .before .before .before .before .before .before .before .args in (rw (as-line (a .tolerance) (a .w) (a .s) _ (c .before .before .before .before .before .before .s2 .given .1)) (c .before .before .before .draw-line .ensures), to-line (a .tolerance) (a .w) (a .s) _ (c .before .before .before .before .before .before .s2 .given .1) (c .drawn-to .ensures), sym (ap isClose (c .before .before .before .before .before .before .s2 .given .1)))
+returns-2 c = let a = c .before .before .before .before .before .before .before .before .before .before .args in (rw (as-line (a .tolerance) (a .w) (a .s) _ (c .before .before .before .before .before .before .s2 .given .1)) (c .before .before .before .draw-line .ensures), to-line (a .tolerance) (a .w) (a .s) _ (c .before .before .before .before .before .before .s2 .given .1) (c .drawn-to .ensures))
 
 same-length-2 : tie.Need-same-length-2
 same-length-2 c = search needs
 
 returns-3 : tie.Need-returns-3
-returns-3 c = let a = c .before .before .before .before .before .before .before .before .before .before .args in (rw (as-quad (a .tolerance) (a .w) (a .s) _ _ (c .before .before .before .before .before .before .s3 .given .1)) (c .before .before .before .draw-quad .ensures), to-quad (a .tolerance) (a .w) (a .s) _ _ (c .before .before .before .before .before .before .s3 .given .1) (c .drawn-to2 .ensures), sym (ap isClose (c .before .before .before .before .before .before .s3 .given .1)))
+returns-3 c = let a = c .before .before .before .before .before .before .before .before .before .before .args in (rw (as-quad (a .tolerance) (a .w) (a .s) _ _ (c .before .before .before .before .before .before .s3 .given .1)) (c .before .before .before .draw-quad .ensures), to-quad (a .tolerance) (a .w) (a .s) _ _ (c .before .before .before .before .before .before .s3 .given .1) (c .drawn-to2 .ensures))
 
 same-length-3 : tie.Need-same-length-3
 same-length-3 c = search needs
 
 returns-4 : tie.Need-returns-4
-returns-4 c = let a = c .before .before .before .before .before .before .before .before .before .before .args in (rw (as-cubic (a .tolerance) (a .w) (a .s) _ _ _ (c .before .before .before .before .before .before .s4 .given .1)) (c .before .before .before .draw-cubic .ensures), to-cubic (a .tolerance) (a .w) (a .s) _ _ _ (c .before .before .before .before .before .before .s4 .given .1) (c .drawn-to3 .ensures), sym (ap isClose (c .before .before .before .before .before .before .s4 .given .1)))
+returns-4 c = let a = c .before .before .before .before .before .before .before .before .before .before .args in (rw (as-cubic (a .tolerance) (a .w) (a .s) _ _ _ (c .before .before .before .before .before .before .s4 .given .1)) (c .before .before .before .draw-cubic .ensures), to-cubic (a .tolerance) (a .w) (a .s) _ _ _ (c .before .before .before .before .before .before .s4 .given .1) (c .drawn-to3 .ensures))
 
 same-length-4 : tie.Need-same-length-4
 same-length-4 c = search needs
 
 returns-5 : tie.Need-returns-5
-returns-5 c = let a = c .before .before .before .before .before .before .before .before .before .before .args in (rw (as-close (a .tolerance) (a .w) (a .s) _ (c .before .before .before .before .before .before .enum-told .given .1) (c .before .before .before .before .before .close-adds .ensures)) (c .before .before .before .put-if .ensures), to-close (a .tolerance) (a .w) (a .s) (c .before .before .before .before .before .before .enum-told .given .1) (c .close .ensures), sym (ap isClose (c .before .before .before .before .before .before .enum-told .given .1)))
+returns-5 c = let a = c .before .before .before .before .before .before .before .before .before .before .args in (rw (as-close (a .tolerance) (a .w) (a .s) _ (c .before .before .before .before .before .before .enum-told .given .1) (c .before .before .before .before .before .close-adds .ensures)) (c .before .before .before .put-if .ensures), to-close (a .tolerance) (a .w) (a .s) (c .before .before .before .before .before .before .enum-told .given .1) (c .close .ensures))
 
 pub write-segment-spec : {M : Type 1} → statement M
 write-segment-spec =
