@@ -1,13 +1,16 @@
 -- The laws of subpaths hold of every list of segments at every tolerance. Assumes nothing.
-use mathlib.Core.Path.{_≡_, sym}
-use mathlib.Core.Bool.{true, false≢true}
-use mathlib.Core.List.{List, [], _∷_}
+use mathlib.Core.Path.{_≡_, sym, ap, _∙_}
+use mathlib.Core.Bool.{true, false, cond, false≢true}
+use mathlib.Core.List.{List, [], _∷_, _++_, append-assoc, append-nil}
+use Prim.Native.Nat.{ℕ}
 use lib.Ieee.{Float}
 use Rattle.path.specs.declared.Segment.{Segment}
 use Rattle.path.specs.declared.Segment.the-variants.{Move, Line, Quad, Cubic, Close}
-use Rattle.flatten.specs.Subpaths.{subpaths, AllSubpaths}
+use Rattle.path.specs.Segment.{isClose}
+use Rattle.flatten.specs.Flatten.{onlyIf}
+use Rattle.flatten.specs.Subpaths.{subpaths, anyDrawn, withDrawn, markOf, marksOut, Subpath, AllSubpaths}
 use Rattle.flatten.specs.Laws.{beginsWithMove, SubpathLaws}
-use Rattle.flatten.proofs.Subpaths.{subpaths-join, subpaths-are, marks-are, marks-verbs}
+use Rattle.flatten.proofs.Subpaths.{subpaths-join, subpaths-are, closed-more, marks-are, marks-verbs, marks-cut, marks-one}
 use Rattle.flatten.proofs.Polylines.{subpath-points, subpath-ends, subpath-polylines, ends-rise, marks-ends}
 
 all-moves : (ss : List Segment) → beginsWithMove ss ≡ true → AllSubpaths (subpaths ss)
@@ -18,16 +21,50 @@ all-moves (Quad c p ∷ ss) h = absurd (false≢true h)
 all-moves (Cubic c d p ∷ ss) h = absurd (false≢true h)
 all-moves (Close ∷ ss) h = absurd (false≢true h)
 
+-- ---- the marks of a list cut before and behind a subpath
+
+marks-apart : (a b : List Segment) → beginsWithMove b ≡ true → marksOut (a ++ b) ≡ marksOut a ++ marksOut b
+unfolding marksOut withDrawn
+marks-apart a [] h = ap marksOut (append-nil a) ∙ sym (append-nil (marksOut a))
+marks-apart a (Move p ∷ b) h = marks-cut a p b
+marks-apart a (Line p ∷ b) h = absurd (false≢true h)
+marks-apart a (Quad c p ∷ b) h = absurd (false≢true h)
+marks-apart a (Cubic c d p ∷ b) h = absurd (false≢true h)
+marks-apart a (Close ∷ b) h = absurd (false≢true h)
+
+subpath-begins : (part : List Segment) → Subpath part → beginsWithMove part ≡ true
+subpath-begins [] g = absurd g
+subpath-begins (s ∷ part) g = g .0
+
+marks-around : (pre part post : List Segment) → Subpath part → beginsWithMove post ≡ true →
+    marksOut (pre ++ part ++ post) ≡ marksOut pre ++ onlyIf (anyDrawn part) (markOf part) ++ marksOut post
+marks-around pre part post g h =
+    marks-apart (pre ++ part) post h
+    ∙ ap (λ (r : List ℕ). r ++ marksOut post)
+    (marks-apart pre part (subpath-begins part g) ∙ ap (λ (r : List ℕ). marksOut pre ++ r) (marks-one part g))
+
+marked : (ss pre part : List Segment) (s : Segment) (post : List Segment) → ss ≡ pre ++ (part ++ s ∷ []) ++ post → Subpath (part ++ s ∷ []) →
+    beginsWithMove post ≡ true → anyDrawn (part ++ s ∷ []) ≡ true → marksOut ss ≡ marksOut pre ++ cond (isClose s) 1 0 ∷ marksOut post
+marked ss pre part s post e g h d =
+    ap marksOut e ∙ marks-around pre (part ++ s ∷ []) post g h ∙ rw (d, closed-more part s) (append-assoc (marksOut pre) (cond (isClose s) 1 0 ∷ []) (marksOut post))
+
+unmarked : (ss pre part post : List Segment) → ss ≡ pre ++ part ++ post → Subpath part →
+    beginsWithMove post ≡ true → anyDrawn part ≡ false → marksOut ss ≡ marksOut pre ++ marksOut post
+unmarked ss pre part post e g h d =
+    ap marksOut e ∙ marks-around pre part post g h ∙ rw d (ap (λ (r : List ℕ). r ++ marksOut post) (append-nil (marksOut pre)))
+
 pub subpath-laws : (tol : Float) (ss : List Segment) → SubpathLaws tol ss
 subpath-laws tol ss =
     record {
-      whole = subpaths-join ss;
+      joined = subpaths-join ss;
       moves = all-moves ss;
       points = sym (subpath-points tol ss);
       ends = subpath-ends tol ss;
       polylines = subpath-polylines tol ss;
       rise = ends-rise tol ss;
       many = marks-ends tol ss;
+      mark = marked ss;
+      no-mark = unmarked ss;
       verbs = marks-verbs ss;
       one-pass = sym (marks-are ss);
     }

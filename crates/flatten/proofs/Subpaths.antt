@@ -103,7 +103,7 @@ drawn-after w Close m = sym (or-false (w .drawn))
 pub drawn-more : (w : Spot) (part : List Segment) (s : Segment) → isMove s ≡ false → w .drawn ≡ anyDrawn part → after w s .drawn ≡ anyDrawn (part ++ s ∷ [])
 drawn-more w part s m d = drawn-after w s m ∙ ap (λ (b : Bool). b || isDrawn s) d ∙ sym (any-drawn-more part s)
 
-closed-more : (part : List Segment) (s : Segment) → isClosed (part ++ s ∷ []) ≡ isClose s
+pub closed-more : (part : List Segment) (s : Segment) → isClosed (part ++ s ∷ []) ≡ isClose s
 closed-more [] s = refl
 closed-more (t ∷ []) s = refl
 closed-more (t ∷ u ∷ part) s = closed-more (u ∷ part) s
@@ -158,3 +158,44 @@ pass-verbs (Close ∷ ss) shut w = pass-verbs ss true (afterClose w)
 
 pub marks-verbs : (ss us : List Segment) → bytesOf ss ≡ bytesOf us → marksOut ss ≡ marksOut us
 marks-verbs ss us e = sym (marks-are ss) ∙ pass-verbs ss false nowhere ∙ ap (byVerbs false false) e ∙ sym (pass-verbs us false nowhere) ∙ marks-are us
+
+-- ---- the marks of a list cut before a move, and of one subpath
+
+subpaths-from-cut : (p : Vec2) (b a part : List Segment) → subpathsFrom part (a ++ Move p ∷ b) ≡ subpathsFrom part a ++ subpaths (Move p ∷ b)
+unfolding subpathsFrom
+subpaths-from-cut p b =
+    by-parts (λ part a parts. subpathsFrom part (a ++ Move p ∷ b) ≡ parts ++ subpaths (Move p ∷ b))
+    (λ part. refl)
+    (λ part q a h. ap (λ (r : List (List Segment)). part ∷ r) h)
+    (λ part s a m h. rw m h)
+
+subpaths-cut : (a : List Segment) (p : Vec2) (b : List Segment) → subpaths (a ++ Move p ∷ b) ≡ subpaths a ++ subpaths (Move p ∷ b)
+subpaths-cut [] p b = refl
+subpaths-cut (s ∷ a) p b = subpaths-from-cut p b a (s ∷ [])
+
+marks-append : (parts more : List (List Segment)) → map markOf (withDrawn (parts ++ more)) ≡ map markOf (withDrawn parts) ++ map markOf (withDrawn more)
+unfolding withDrawn
+marks-append [] more = refl
+marks-append (part ∷ parts) more =
+    sym (mark-first part (parts ++ more))
+    ∙ ap (λ (r : List ℕ). onlyIf (anyDrawn part) (markOf part) ++ r) (marks-append parts more)
+    ∙ sym (append-assoc (onlyIf (anyDrawn part) (markOf part)) (map markOf (withDrawn parts)) (map markOf (withDrawn more)))
+    ∙ ap (λ (r : List ℕ). r ++ map markOf (withDrawn more)) (mark-first part parts)
+
+pub marks-cut : (a : List Segment) (p : Vec2) (b : List Segment) → marksOut (a ++ Move p ∷ b) ≡ marksOut a ++ marksOut (Move p ∷ b)
+unfolding marksOut
+marks-cut a p b = ap (λ (r : List (List Segment)). map markOf (withDrawn r)) (subpaths-cut a p b) ∙ marks-append (subpaths a) (subpaths (Move p ∷ b))
+
+-- with no move, all belongs to the present subpath
+no-move-one : (ss part : List Segment) → anyMove ss ≡ false → subpathsFrom part ss ≡ (part ++ ss) ∷ []
+no-move-one =
+    by-parts (λ part ss parts. anyMove ss ≡ false → parts ≡ (part ++ ss) ∷ [])
+    (λ part g. ap (λ (r : List Segment). r ∷ []) (sym (append-nil part)))
+    (λ part p ss h g. absurd (true≢false g))
+    (λ part s ss m h g. h (rw m at g) ∙ ap (λ (r : List Segment). r ∷ []) (append-assoc part (s ∷ []) ss))
+
+pub marks-one : (part : List Segment) → Subpath part → marksOut part ≡ onlyIf (anyDrawn part) (markOf part)
+unfolding marksOut withDrawn
+marks-one [] g = absurd g
+marks-one (s ∷ part) g =
+    ap (λ (r : List (List Segment)). map markOf (withDrawn r)) (no-move-one part (s ∷ []) (g .1)) ∙ sym (mark-first (s ∷ part) []) ∙ append-nil _

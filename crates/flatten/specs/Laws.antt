@@ -1,16 +1,16 @@
 -- W4: what holds of the subpaths of any list of segments, of its flattening at any tolerance, and of the marks. Definitions only.
 use mathlib.Core.Path.{_≡_}
-use mathlib.Core.Bool.{Bool, true, false}
-use mathlib.Core.List.{List, [], _∷_, map}
+use mathlib.Core.Bool.{Bool, true, false, cond}
+use mathlib.Core.List.{List, [], _∷_, _++_, map}
 use lib.ListN.{length}
 use lib.Ieee.{Float}
 use Rattle.path.specs.declared.Segment.{Segment}
-use Rattle.path.specs.Segment.{isMove, bytesOf}
+use Rattle.path.specs.Segment.{isMove, isClose, bytesOf}
 use Rattle.flatten.specs.Flatten.{nowhere, pointsOut, endsOut}
 use Rattle.flatten.specs.Polylines as poly
 use Rattle.flatten.specs.Polylines.{endToEnd, endsOf, Rising}
 use Rattle.flatten.specs.Steps.{marksFrom}
-use Rattle.flatten.specs.Subpaths.{subpaths, withDrawn, AllSubpaths, marksOut}
+use Rattle.flatten.specs.Subpaths.{subpaths, anyDrawn, withDrawn, Subpath, AllSubpaths, marksOut}
 
 -- as a path that isn't refused does
 abbrev pub beginsWithMove : List Segment → Bool
@@ -18,8 +18,8 @@ beginsWithMove [] = true
 beginsWithMove (s ∷ ss) = isMove s
 
 pub record SubpathLaws (tol : Float) (ss : List Segment) : Type 0 where
-  -- end to end the subpaths are the list, and each is a move with no other behind it
-  pub whole : endToEnd (subpaths ss) ≡ ss
+  -- end to end the subpaths are the list, and, where it begins with a move, each is a move with no other behind it
+  pub joined : endToEnd (subpaths ss) ≡ ss
   pub moves : beginsWithMove ss ≡ true → AllSubpaths (subpaths ss)
   -- flattening the list is flattening its subpaths, end to end
   pub points : pointsOut tol ss ≡ endToEnd (map (pointsOut tol) (subpaths ss))
@@ -30,6 +30,11 @@ pub record SubpathLaws (tol : Float) (ss : List Segment) : Type 0 where
   pub rise : Rising 0 (endsOut tol ss) (length (pointsOut tol ss))
   -- there are as many marks as ends
   pub many : length (marksOut ss) ≡ length (endsOut tol ss)
+  -- of a list cut before and behind a subpath: with a drawn verb it has one mark, 1 exactly where its last verb is a close; without one it has none
+  pub mark : (pre part : List Segment) (s : Segment) (post : List Segment) → ss ≡ pre ++ (part ++ s ∷ []) ++ post → Subpath (part ++ s ∷ []) →
+      beginsWithMove post ≡ true → anyDrawn (part ++ s ∷ []) ≡ true → marksOut ss ≡ marksOut pre ++ cond (isClose s) 1 0 ∷ marksOut post
+  pub no-mark : (pre part post : List Segment) → ss ≡ pre ++ part ++ post → Subpath part →
+      beginsWithMove post ≡ true → anyDrawn part ≡ false → marksOut ss ≡ marksOut pre ++ marksOut post
   -- the marks depend on the verbs alone
   pub verbs : (us : List Segment) → bytesOf ss ≡ bytesOf us → marksOut ss ≡ marksOut us
   -- and one pass reads them
