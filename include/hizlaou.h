@@ -39,7 +39,7 @@ enum { HZ_NON_ZERO = 0, HZ_EVEN_ODD = 1 };
 
 /* Marks of polylines: a byte for each, by which a stroker puts caps on open lines and a join on closed ones. A polyline is closed exactly where the last
  * verb of its subpath is a close, even where no closing point was added: its last point may equal its first already, and to a NaN start none is ever
- * added. A drawn verb behind the close leaves it open. */
+ * added. A drawn verb behind its last close leaves it open. */
 enum { HZ_OPEN = 0, HZ_CLOSED = 1 };
 
 /* Limits. */

@@ -45,7 +45,7 @@ pub struct Totals {
 /// The polylines of a flattened path, each with a mark that says whether it is closed: a stroker puts a join on closed ones and caps on open ones.
 ///
 /// A polyline is closed exactly where the last verb of its subpath is a close, even where no closing point was added, since its last point may equal
-/// its first already, and to a NaN start none is ever added. A drawn verb behind the close leaves it open. So the points alone do not tell.
+/// its first already, and to a NaN start none is ever added. A drawn verb behind its last close leaves it open. So the points alone do not tell.
 ///
 /// ```
 /// # fn main() -> Result<(), hizlaou::Refusal> {

@@ -2,7 +2,7 @@
 //!
 //! The library's walk leaves a segment from the inside when the position no longer grows: when an interval is used up exactly at a corner, when
 //! nothing is left of the interval that the phase falls into, or when an interval is too short to move the position. From there on the rest of the
-//! polyline is one run or one gap. The library's answer holds no mark of it, so the walk is made again here, over the library's polylines, with the same operations in the
+//! polyline is one run or one gap. The library's answer holds no sign of it, so the walk is made again here, over the library's polylines, with the same operations in the
 //! same order. What is found counts only if this walk lays the library's answer, verb by verb and float by float; that is compared as it goes.
 use crate::canvas::length;
 use hizlaou::{Dash, Path, Polylines, Vec2, Verb};

@@ -50,8 +50,8 @@ pub record Starred : Type 0 where
   pub held-∞ : heldBack (inf false) ≡ true
   pub held-below : heldBack (inf true) ≡ false
   pub held-nan : heldBack nan ≡ false
-  -- W4, the marks: M L Z L is open, M L Z Z closed, M Z L open; M Z has no polyline; a line back to the start and a close is closed; so is a NaN start; of M Z,
-  -- M, M Q Z, M just the third has a polyline
+  -- W4, the marks: M L Z L is open, M L Z Z closed, M Z L open; M Z has no polyline; a line back to the start and a close is closed; so is a NaN start with a
+  -- close; an empty path has none; of M Z, M, M Q Z, M just the third has a polyline
   pub mark-open : marksOut (Move (at 0 0) ∷ Line (at 1 0) ∷ Close ∷ Line (at 2 0) ∷ []) ≡ 0 ∷ []
   pub mark-twice : marksOut (Move (at 0 0) ∷ Line (at 1 0) ∷ Close ∷ Close ∷ []) ≡ 1 ∷ []
   pub mark-early : marksOut (Move (at 0 0) ∷ Close ∷ Line (at 1 0) ∷ []) ≡ 0 ∷ []

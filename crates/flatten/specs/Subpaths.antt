@@ -1,4 +1,4 @@
--- The subpaths of a list of segments, and the mark of each, by its verbs ("Laid list" of the scope; W4). Nothing here knows the flattener's state.
+-- The subpaths of a list of segments, and the marks of those with a drawn verb ("Laid list" of the scope; W4). Nothing here knows the flattener's state.
 -- Definitions only.
 use Prim.Native.Nat.{ℕ}
 use mathlib.Core.Path.{_≡_}
