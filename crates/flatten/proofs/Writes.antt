@@ -130,8 +130,8 @@ close-any (suc (suc (suc (suc v)))) fs k = refl
 
 pub close-read : (vs : List ℕ) (i : ℕ) (fs : List Float) (k : ℕ) (s : Segment) → s ≡ segAt (getD vs i 0) fs k → closeBefore vs (i + 1) ≡ isClose s
 close-read vs i fs k s e =
-    let j : i + 1 - 1 ≡ i = omega arith in
-    rw j (close-any (getD vs i 0) fs k ∙ sym (ap isClose e))
+    let here : i + 1 - 1 ≡ i = omega arith in
+    ap (λ (j : ℕ). isClose (segAt (getD vs j 0) [] 0)) here ∙ (close-any (getD vs i 0) fs k ∙ sym (ap isClose e))
 
 -- by its byte
 pub none-below : (v : ℕ) → v < 4 → isClose (segAt v [] 0) ≡ false
