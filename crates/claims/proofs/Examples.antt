@@ -21,6 +21,7 @@ use Rattle.builder.specs.Call.{lays}
 use Rattle.builder.specs.Laid.{lay, puts, laidFrom, laid}
 use Rattle.pattern.specs.Cycle.{cuts}
 use Rattle.walk.specs.Loop.{trace, traced}
+use Rattle.walk.specs.Zeros.{above}
 use Rattle.walk.specs.Walk.{cutFrom, walkFrom}
 use Rattle.dash.specs.Runs.{walkOf}
 
@@ -68,13 +69,13 @@ pub record Starred : Type 0 where
       (Move (at 0 0) ∷ Line (at 2 0) ∷ Move (at 3 0) ∷ Line (at 5 0) ∷ Move (at 6 0) ∷ Line (at 8 0) ∷ [])
   pub dash-5 : Draws (whole 5 ∷ []) (at 0 0 ∷ at 8 0 ∷ []) (Move (at 0 0) ∷ Line (at 5 0) ∷ [])
   pub corner-6-2 : Draws (whole 6 ∷ whole 2 ∷ []) (at 0 0 ∷ at 4 0 ∷ at 4 4 ∷ []) (Move (at 0 0) ∷ Line (at 4 0) ∷ Line (at 4 2) ∷ [])
-  pub corner-2-1 : Draws (whole 2 ∷ whole 1 ∷ []) (at 0 0 ∷ at 2 0 ∷ at 2 4 ∷ []) (Move (at 0 0) ∷ Line (at 2 0) ∷ Line (at 2 4) ∷ [])
+  pub corner-2-1 : Draws (whole 2 ∷ whole 1 ∷ []) (at 0 0 ∷ at 2 0 ∷ at 2 4 ∷ []) (Move (at 0 0) ∷ Line (at 2 0) ∷ Move (at 2 1) ∷ Line (at 2 3) ∷ [])
   pub whole-fine : cuts (eighth ∷ eighth ∷ []) f0 quarter ≡ false
   -- behind a move to NaN, whose 64 quads of weight 100 a program shows
   pub weight-0 : laid (MoveTo (vec nan nan) ∷ ConicTo (at 1 1) (at 2 0) f0 ∷ []) (0 ∷ 0 ∷ []) ≡ Move (vec nan nan) ∷ Line (at 2 0) ∷ []
 
 pub starred : Starred
-unfolding segmentCount heldBack marksOut withDrawn subpathsFrom bend anyNan allFinite straight lays lay puts laidFrom walkFrom cutFrom trace traced squareRoot twiceRoot wholeRoot isFinite maximum remEuclid abs isNan add sub mul div rem lt le eq neg sum round size units odd span climb ofInt ofBits ofFields trailingZeros
+unfolding segmentCount heldBack marksOut withDrawn subpathsFrom bend anyNan allFinite straight lays lay puts laidFrom above walkFrom cutFrom trace traced squareRoot twiceRoot wholeRoot isFinite maximum remEuclid abs isNan add sub mul div rem lt le eq neg sum round size units odd span climb ofInt ofBits ofFields trailingZeros
 starred =
     record {
       s-1 = refl;

@@ -9,7 +9,7 @@ use lib.ListN.{length}
 use lib.Seq.{sets}
 use lib.Dec.{ltb, eqb}
 use lib.Ieee.{Float}
-use borrow.Author.Tests.{ltb-false, eqb-true}
+use borrow.Author.Tests.{ltb-false, eqb-true, le-leb}
 use Rattle.float.specs.Arith.{f0}
 use Rattle.vec2.specs.declared.Vec2.{Vec2}
 use Rattle.vec2.specs.Points.{flat, pointsIn}
@@ -25,8 +25,8 @@ use Rattle.walk.specs.declared.Pos.{Pos}
 use Rattle.walk.specs.Phase.{startOf}
 use Rattle.dash.specs.declared.Dashed.{Dashed}
 use Rattle.dash.specs.declared.Dashed.the-variants.{Whole, Cut, Refused}
-use Rattle.dash.specs.Answer.{Answer, refusedBy, drawnWhole, answerOf}
-use Rattle.dash.specs.Dash.{even, thenEight, refusal, walked, dashes, scratchFits, cutOutcome, outOutcome, Outcome, outcome, keeping, cutting, dashing}
+use Rattle.dash.specs.Answer.{Answer, refusedBy, drawnWhole, cutInto, answerOf}
+use Rattle.dash.specs.Dash.{even, thenEight, refusal, walked, dashes, scratchFits, fitsBoth, cutOutcome, outIf, outOutcome, Outcome, outcome, keeping, cutting, dashing}
 
 -- ---- the case
 
@@ -68,14 +68,14 @@ module _ (verbs : List ℕ) (points : List Float) (rule : FillRule) (intervals :
 
   pub scratch-kept : scratchFits ps es ms scratch ends marks ≡ true
       → (s' : List Float) (e' m' : List ℕ) → s' ≡ sets scratch 0 (flat ps) → e' ≡ sets ends 0 es → m' ≡ sets marks 0 ms
-      → (l : List Float) (k : List ℕ) → l ≡ flat ps → k ≡ es → (cs : List Float) → cs ≡ cycleOf intervals → (period : Float) → period ≡ sumFrom f0 cs → (start : Pos) → start ≡ startOf cs phase period
+      → (l : List Float) (k : List ℕ) → l ≡ flat ps → k ≡ es → (cs : List Float) → cs ≡ cycleOf intervals
       → (held : ℕ) → held ≡ heldCurves tolerance (segments verbs points)
-      → (a : Answer) (vs' : List ℕ) (fs' : List Float) → cutOutcome a vs' fs' ≡ outOutcome (walked cs start (pointsIn l) k) (length l / 2) (length k) held rule us gs
+      → (a : Answer) (vs' : List ℕ) (fs' : List Float) → cutOutcome a vs' fs' ≡ outOutcome (walked cs (startOf cs phase (sumFrom f0 cs)) (pointsIn l) k) (length l / 2) (length k) held rule us gs
       → outcome a s' e' m' vs' fs' ≡ cutting verbs points rule intervals phase tolerance scratch ends marks us gs
-  scratch-kept f s' e' m' p q r l k lp kp cs cp period pp start sp held hp a vs' fs' h =
+  scratch-kept f s' e' m' p q r l k lp kp cs cp held hp a vs' fs' h =
       let n : length l / 2 ≡ length ps = omega (arith, ap length lp, length-flat ps) in
       let m : pointsIn l ≡ ps = ap pointsIn lp ∙ pointsIn-flat ps in
-      let d : walked cs start (pointsIn l) k ≡ ss = rw (m, kp, sp, pp, cp) in
+      let d : walked cs (startOf cs phase (sumFrom f0 cs)) (pointsIn l) k ≡ ss = rw (m, kp, cp) in
       rw (f, p, q, r) (ap (keeping (sets scratch 0 (flat ps)) (sets ends 0 es) (sets marks 0 ms)) (h ∙ rw (d, n, kp, hp)))
 
   -- ---- the whole call
@@ -126,3 +126,18 @@ first false b h = h
 
 pub cuts-some : (xs : List Float) (phase tolerance : Float) → cuts xs phase tolerance ≡ true → 0 < length (cycleOf xs)
 cuts-some xs phase tolerance h = double-some xs (eqb (length xs % 2) 0) (first (some xs) _ (first (usable xs phase) _ h))
+
+-- ---- nothing is drawn
+
+none-fit : (n m : ℕ) → fitsBoth 0 0 n m ≡ true
+none-fit n m = rw (le-leb 0 n (omega arith), le-leb 0 (m / 2) (omega arith))
+
+none-out : (n k held : ℕ) (rule : FillRule) (vs : List ℕ) (fs : List Float) (b : Bool) → b ≡ true
+    → cutOutcome (cutInto (record { verbs = 0; points = 0; scratch = n; polylines = k; held = held; rule = rule })) vs fs ≡ outIf b [] n k held rule vs fs
+none-out n k held rule vs fs true h = refl
+none-out n k held rule vs fs false h = absurd (true≢false (sym h))
+
+pub cut-none : (ss : List Segment) → ss ≡ [] → (n k held : ℕ) (rule : FillRule) (vs : List ℕ) (fs : List Float)
+    → cutOutcome (cutInto (record { verbs = 0; points = 0; scratch = n; polylines = k; held = held; rule = rule })) vs fs ≡ outOutcome ss n k held rule vs fs
+cut-none ss e n k held rule vs fs =
+    none-out n k held rule vs fs (fitsBoth 0 0 (length vs) (length fs)) (none-fit (length vs) (length fs)) ∙ sym (ap (λ (l : List Segment). outOutcome l n k held rule vs fs) e)

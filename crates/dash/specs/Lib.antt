@@ -3,3 +3,4 @@ pub mod Answer
 pub mod Dash
 pub mod Outline
 pub mod Runs
+pub mod Source

@@ -4,7 +4,9 @@ ghost use Prim.Native.Nat.{_+_, _*_, _/_, _%_, _^_, _≤_, _<_};
 ghost use lib.ListN.{length, drop};
 ghost use Rattle.vec2.specs.Points.{pointsIn};
 ghost use Rattle.path.specs.Check.{badPath};
-ghost use Rattle.pattern.specs.Cycle.{cycleOf};
+ghost use Rattle.float.specs.Arith.{f0};
+ghost use Rattle.pattern.specs.Cycle.{cycleOf, sumFrom};
+ghost use Rattle.walk.specs.Phase.{startOf};
 ghost use Rattle.walk.specs.Lay.{out, laid, Room};
 ghost use Rattle.walk.specs.Count.{UpTo, itself};
 ghost use Rattle.walk.specs.Lengths.{Kept};
@@ -201,6 +203,38 @@ fn cut_all(
     cut_by(points, &many, ends, cycle, start, held, rule, verbs, floats)
 }
 
+// Cuts what the scratch keeps. Where no drawn interval is above 0 nothing is drawn, and nothing is walked: a fine gap on a long path would take very many
+// turns that lay nothing.
+fn cut_scratch(
+    points: &[f32],
+    ends: &[usize],
+    cycle: &[f32],
+    phase: f32,
+    held: usize,
+    rule: FillRule,
+    verbs: &mut [u8],
+    floats: &mut [f32],
+) -> Dashed
+    requires { ⌜ (0 < length (now cycle)) × Ordered (length (now points)) 0 (now ends) ⌝ }
+    ensures { λ r. ⌜ cutOutcome (answerOf r) (now (verbs .exit)) (now (floats .exit))
+        ≡ scratchOutcome (now (cycle .entry)) (startOf (now (cycle .entry)) phase (sumFrom f0 (now (cycle .entry)))) (now (points .entry)) (now (ends .entry)) held rule (now (verbs .entry)) (now (floats .entry)) ⌝ }
+{
+    if walk::gaps_only(cycle) {
+        let o = Outline {
+            verbs: 0,
+            points: 0,
+            scratch: points.len() / 2,
+            polylines: ends.len(),
+            held,
+            rule,
+        };
+        return Dashed::Cut(o);
+    }
+    let period = pattern::sum_of(cycle);
+    let start = walk::start_of(cycle, phase, period);
+    cut_all(points, ends, cycle, start, held, rule, verbs, floats)
+}
+
 // Flattens into the scratch, and lays the dashes.
 fn cut(
     verbs: &[u8],
@@ -224,15 +258,13 @@ fn cut(
     if f.refused != 0 {
         return Dashed::Refused(3);
     }
-    let period = pattern::sum_of(cycle);
-    let start = walk::start_of(cycle, phase, period);
     let n = 2 * f.points;
     let k = f.polylines;
-    cut_all(
+    cut_scratch(
         &scratch[..n],
         &ends[..k],
         cycle,
-        start,
+        phase,
         f.held,
         rule,
         vs,

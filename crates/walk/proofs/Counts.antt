@@ -9,7 +9,7 @@ use lib.ListN.{length, length-append, drop, getD}
 use lib.Dec.{T}
 use lib.Ieee.{Float, binary32, fits, nan}
 use lib.Ieee.Fits.{add-fits}
-use Rattle.float.specs.Arith.{plus}
+use Rattle.float.specs.Arith.{plus, f0}
 use Rattle.vec2.specs.declared.Vec2.{Vec2}
 use Rattle.walk.specs.declared.Pos.{Pos}
 use Rattle.walk.specs.declared.Leg.{Leg}
@@ -17,9 +17,9 @@ use Rattle.walk.specs.declared.Event.{Event}
 use Rattle.walk.specs.declared.Event.the-variants.{Nothing, Cut, Reach, Pass}
 use Rattle.walk.specs.declared.Tip.{Tip}
 use Rattle.walk.specs.declared.Walked.{Walked}
-use Rattle.walk.specs.Walk.{inside, resting, rested, goes, onward, Place, place, Told, cutFrom, turned, passed, counts, legOf, walkFrom, walkPolyline}
+use Rattle.walk.specs.Walk.{inside, resting, rested, goes, onward, Place, place, Told, cutFrom, turned, beginningAt, cutLeg, passed, counts, legOf, walkFrom, walkPolyline}
 use Rattle.walk.specs.Drawn.{downTo, drawn}
-use Rattle.walk.specs.Count.{tallyStroke, tallyCut, tallyRest, tallyEvent, tally, tallied, UpTo, laidBy}
+use Rattle.walk.specs.Count.{tallyStroke, tallyCut, tallyRest, tallyEvent, tally, tallyTurn, tallied, UpTo, laidBy}
 use Rattle.walk.proofs.Turns.{cut-stop, cut-step}
 use Rattle.walk.proofs.Lines.{next-point, walk-start, walk-none}
 use Rattle.vec2.specs.Points.{pointsIn}
@@ -33,7 +33,7 @@ stroke-count false n m a z = omega arith
 
 pub tally-drawn : (k : Tip) (es : List Event) → tally k es .at ≡ k .at + length (drawn (k .down) es)
 tally-drawn k [] = sym (add-zero (k .at))
-tally-drawn k (Nothing ∷ es) = tally-drawn k es
+tally-drawn k (Nothing ∷ es) = tally-drawn (record { at = k .at; down = false }) es
 tally-drawn k (Cut a z ∷ es) =
     tally-drawn (tallyStroke k false) es
     ∙ stroke-count (k .down) (k .at) (length (drawn false es)) a z
@@ -112,6 +112,33 @@ module _ {cs : List Float} {g : Leg} {cap : ℕ} {k₀ : Tip} {s₀ : Place} whe
       ∙ ap (λ (z : Tip). record { pos = rested g (s .pos) (s .t); tip = z }) (ek ∙ sym (rest-counts g (s .pos) (s .t) k))
       ∙ sym (ap (λ (c : Told). tallied c k) (cut-stop cs g s h))
       ∙ i .same
+
+-- ---- an interval that ended where the leg begins
+
+-- where a dash began does not count
+begin-counts : (k : Tip) (a : Vec2) (es : List Event) → tally k es ≡ tally k (beginningAt a es)
+begin-counts k a [] = refl
+begin-counts k a (Nothing ∷ es) = refl
+begin-counts k a (Cut b z ∷ es) = refl
+begin-counts k a (Reach b c ∷ es) = refl
+begin-counts k a (Pass c ∷ es) = refl
+
+turn-counts : (b : Bool) (cs : List Float) (g : Leg) (w : Walked) → tallied (cutFrom cs g (place (tallyTurn b cs w .pos) f0)) (tallyTurn b cs w .tip) ≡ tallied (cutLeg b cs g (w .pos)) (w .tip)
+turn-counts true cs g w =
+    let c = cutFrom cs g (place (turned cs (w .pos)) f0) in
+    ap (λ (z : Tip). record { pos = c .pos; tip = z }) (begin-counts (tallyCut false (w .tip)) (g .from) (c .events))
+turn-counts false cs g w = refl
+
+module _ (b : Bool) (cs : List Float) (w r : Walked) (e : r ≡ tallyTurn b cs w) where
+  pub turned-counts : (g : Leg) → tallied (cutFrom cs g (place (r .pos) f0)) (r .tip) ≡ tallied (cutLeg b cs g (w .pos)) (w .tip)
+  turned-counts g = ap (λ (z : Walked). tallied (cutFrom cs g (place (z .pos) f0)) (z .tip)) e ∙ turn-counts b cs g w
+
+  pub turned-at : r .tip .at ≡ w .tip .at
+  turned-at = ap laidBy e ∙ go b
+    where
+      go : (t : Bool) → tallyTurn t cs w .tip .at ≡ w .tip .at
+      go true = refl
+      go false = refl
 
 -- a count that went through to its end
 pub through : {A : Type 0} (size : A → ℕ) (cap : ℕ) (all r : A) → r ≡ all → UpTo size cap all r

@@ -45,7 +45,7 @@ laid-none o = simp add-zero
 
 pub lay-drawn : (s : Sheet) (es : List Event) → layAll s es .page ≡ laid (s .page) (drawn (s .down) es)
 lay-drawn s [] = laid-none (s .page)
-lay-drawn s (Nothing ∷ es) = lay-drawn s es
+lay-drawn s (Nothing ∷ es) = lay-drawn (layEvent s Nothing) es
 lay-drawn s (Cut a z ∷ es) = lay-drawn (layEvent s (Cut a z)) es ∙ stroke-laid (s .down) (s .page) a z (drawn false es)
 lay-drawn s (Reach a c ∷ es) = lay-drawn (layEvent s (Reach a c)) es ∙ stroke-laid (s .down) (s .page) a c (drawn true es)
 lay-drawn s (Pass c ∷ es) = lay-drawn (layEvent s (Pass c)) es
@@ -71,7 +71,7 @@ downTo-points false a z ss e = ap (λ (n : ℕ). suc (suc n)) e
 
 drawn-points : (d : Bool) (es : List Event) → length (allPoints (drawn d es)) ≡ length (drawn d es)
 drawn-points d [] = refl
-drawn-points d (Nothing ∷ es) = drawn-points d es
+drawn-points d (Nothing ∷ es) = drawn-points false es
 drawn-points d (Cut a z ∷ es) = downTo-points d a z (drawn false es) (drawn-points false es)
 drawn-points d (Reach a c ∷ es) = downTo-points d a c (drawn true es) (drawn-points true es)
 drawn-points d (Pass c ∷ es) = drawn-points false es

@@ -8,3 +8,6 @@ pub mod Lines
 pub mod Runs
 pub mod Lengths
 pub mod Positive
+pub mod Source
+pub mod Gaps
+pub mod Changed

@@ -7,29 +7,97 @@ use mathlib.Core.Bool.{Bool, true, false, true≢false}
 use mathlib.Core.List.{List, [], _∷_, _++_}
 use lib.ListN.{length, getD, drop, length-drop}
 use lib.Seq.{drop-cons}
-use lib.Ieee.{Float, nan}
+use lib.Ieee.{Float, nan, eq, binary32}
+use lib.Ieee.Bits.{ofBits-fits}
 use Rattle.vec2.specs.declared.Vec2.{Vec2}
 use Rattle.vec2.specs.Vec2.{vec}
 use Rattle.vec2.specs.Points.{pointsIn}
 use Rattle.walk.specs.declared.Pos.{Pos}
 use Rattle.walk.specs.declared.Event.{Event}
+use Rattle.walk.specs.declared.Event.the-variants.{Nothing}
 use Rattle.walk.specs.declared.Leg.{Leg}
-use Rattle.float.specs.Arith.{f0}
-use Rattle.walk.specs.Walk.{Told, place, cutFrom, passed, counts, legOf, walkFrom, walkPolyline}
+use Rattle.walk.specs.declared.Walked.{Walked}
+use Rattle.float.specs.Arith.{f0, plus}
+use Rattle.walk.specs.Walk.{turned, inside, resting, Told, Place, place, goes, onward, cutFrom, beginningAt, cutLeg, passed, counts, legOf, walkFrom, walkPolyline}
 use Rattle.walk.proofs.Lays.{room-start}
-use Rattle.walk.specs.Lay.{Room, Sheet, laid, layEvent, layAll}
+use Rattle.walk.specs.Lay.{Room, Sheet, laid, layEvent, layAll, layTurn}
+use Rattle.walk.specs.Count.{tallyTurn}
+use Rattle.walk.proofs.Turns.{cut-stop, cut-step}
 
 pub lay-append : (s : Sheet) (es fs : List Event) → layAll s (es ++ fs) ≡ layAll (layAll s es) fs
 lay-append s [] fs = refl
 lay-append s (e ∷ es) fs = lay-append (layEvent s e) es fs
 
-pub did : (b : Bool) (cs : List Float) (g : Leg) (p : Pos) → b ≡ true → cutFrom cs g (place p f0) ≡ passed b cs g p
+pub did : (b : Bool) (cs : List Float) (g : Leg) (p : Pos) → b ≡ true → cutLeg (eq (p .left) f0) cs g p ≡ passed b cs g p
 did true cs g p h = refl
 did false cs g p h = absurd (true≢false (sym h))
 
 pub did-not : (b : Bool) (cs : List Float) (g : Leg) (p : Pos) → b ≡ false → record { events = []; pos = p } ≡ passed b cs g p
 did-not true cs g p h = absurd (true≢false h)
 did-not false cs g p h = refl
+
+-- ---- an interval that ended where the leg begins, at a
+
+-- a move there, and then the line, is what the leg's first event draws behind it
+module _ (g : Leg) (i : ℕ) (left t : Float) (es : List Event) (s : Sheet) (a : Vec2) where
+  abbrev at : Bool → Pos
+  at drawing = record { index = i; left = left; drawing = drawing }
+
+  first-inside : (d : Bool) → layAll (layTurn true d s a) (inside g (at d) t ∷ es) ≡ layAll s (Nothing ∷ beginningAt a (inside g (at d) t ∷ es))
+  first-inside true = refl
+  first-inside false = refl
+
+  first-resting : (d : Bool) → layAll (layTurn true d s a) (resting g (at d) t ∷ es) ≡ layAll s (Nothing ∷ beginningAt a (resting g (at d) t ∷ es))
+  first-resting true = refl
+  first-resting false = refl
+
+module _ (cs : List Float) (g : Leg) (w : Walked) where
+  turn-begins : (s : Sheet) → layAll (layTurn true (turned cs (w .pos) .drawing) s (g .from)) (cutFrom cs g (place (turned cs (w .pos)) f0) .events) ≡ layAll s (cutLeg true cs g (w .pos) .events)
+  turn-begins s = go (goes cs g from) refl
+    where
+      p : Pos
+      p = turned cs (w .pos)
+
+      from : Place
+      from = place p f0
+
+      both : (c : Told) → cutFrom cs g from ≡ c → layAll (layTurn true (p .drawing) s (g .from)) (c .events) ≡ layAll s (Nothing ∷ beginningAt (g .from) (c .events)) →
+          layAll (layTurn true (p .drawing) s (g .from)) (cutFrom cs g from .events) ≡ layAll s (cutLeg true cs g (w .pos) .events)
+      both c e h = ap (λ (z : Told). layAll (layTurn true (p .drawing) s (g .from)) (z .events)) e ∙ h ∙ sym (ap (λ (z : Told). layAll s (Nothing ∷ beginningAt (g .from) (z .events))) e)
+
+      go : (b : Bool) → goes cs g from ≡ b → layAll (layTurn true (p .drawing) s (g .from)) (cutFrom cs g from .events) ≡ layAll s (cutLeg true cs g (w .pos) .events)
+      go true e = both _ (cut-step cs g from (ofBits-fits binary32 0) e) (first-inside g (p .index) (p .left) (plus f0 (p .left)) (cutFrom cs g (onward cs g from) .events) s (g .from) (p .drawing))
+      go false e = both _ (cut-stop cs g from e) (first-resting g (p .index) (p .left) f0 [] s (g .from) (p .drawing))
+
+  turn-lays : (b : Bool) (s : Sheet) → layAll (layTurn b (turned cs (w .pos) .drawing) s (g .from)) (cutFrom cs g (place (tallyTurn b cs w .pos) f0) .events) ≡ layAll s (cutLeg b cs g (w .pos) .events)
+  turn-lays true s = turn-begins s
+  turn-lays false s = refl
+
+  turn-goes : (b : Bool) → cutFrom cs g (place (tallyTurn b cs w .pos) f0) .pos ≡ cutLeg b cs g (w .pos) .pos
+  turn-goes true = refl
+  turn-goes false = refl
+
+  pub turn-room : (n m : ℕ) (b : Bool) (s : Sheet) → Room n m (layAll s (cutLeg b cs g (w .pos) .events) .page) → Room n m (layTurn b (turned cs (w .pos) .drawing) s (g .from) .page)
+  turn-room n m b s r =
+      room-start n m (layTurn b (turned cs (w .pos) .drawing) s (g .from)) (cutFrom cs g (place (tallyTurn b cs w .pos) f0) .events)
+      (subst (λ (z : Sheet). Room n m (z .page)) (sym (turn-lays b s)) r)
+
+  -- from where the code has turned
+  module _ (b : Bool) (p : Pos) (e : p ≡ tallyTurn b cs w .pos) where
+    pub turned-goes : cutFrom cs g (place p f0) .pos ≡ cutLeg b cs g (w .pos) .pos
+    turned-goes = ap (λ (q : Pos). cutFrom cs g (place q f0) .pos) e ∙ turn-goes b
+
+    pub turned-lays : (s o : Sheet) → o ≡ layTurn b (turned cs (w .pos) .drawing) s (g .from) → layAll o (cutFrom cs g (place p f0) .events) ≡ layAll s (cutLeg b cs g (w .pos) .events)
+    turned-lays s o eo =
+        ap (λ (z : Sheet). layAll z (cutFrom cs g (place p f0) .events)) eo
+        ∙ ap (λ (q : Pos). layAll (layTurn b (turned cs (w .pos) .drawing) s (g .from)) (cutFrom cs g (place q f0) .events)) e
+        ∙ turn-lays b s
+
+-- the same room, in the buffers as they now are
+pub room-in : {n m n' m' : ℕ} {s s' : Sheet} → n' ≡ n → m' ≡ m → s' ≡ s → Room n m (s .page) → Room n' m' (s' .page)
+room-in a b e r = rw (a, b, e) r
+
+-- ---- a loop over the legs
 
 -- a loop that goes through a list by its index
 pub drop-next : {A : Type 0} (xs : List A) (i : ℕ) (d : A) → i < length xs → drop i xs ≡ getD xs i d ∷ drop (i + 1) xs

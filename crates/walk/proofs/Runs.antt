@@ -2,7 +2,7 @@
 use mathlib.Core.Path.{_≡_, refl, _∙_, ap}
 use mathlib.Core.Bool.{Bool, true, false}
 use mathlib.Core.List.{List, [], _∷_, _++_, map}
-use lib.Ieee.{Float}
+use lib.Ieee.{Float, eq}
 use Rattle.vec2.specs.declared.Vec2.{Vec2}
 use Rattle.path.specs.declared.Segment.{Segment}
 use Rattle.path.specs.declared.Segment.the-variants.{Move, Line}
@@ -12,7 +12,7 @@ use Rattle.walk.specs.declared.Event.{Event}
 use Rattle.walk.specs.declared.Event.the-variants.{Nothing, Cut, Reach, Pass}
 use Rattle.walk.specs.Loop.{traced}
 use Rattle.float.specs.Arith.{f0, plus}
-use Rattle.walk.specs.Walk.{inside, resting, Place, place, goes, onward, tells, cutFrom, passed, counts, legOf, walkFrom, walkPolyline, walkAll}
+use Rattle.walk.specs.Walk.{turned, inside, resting, Place, place, goes, onward, tells, cutFrom, beginningAt, cutLeg, passed, counts, legOf, walkFrom, walkPolyline, walkAll}
 use Rattle.walk.specs.Drawn.{drawn}
 use Rattle.walk.specs.Runs.{cornerIf, cornersFrom, corners, Runs, none, run, reached, AllRuns, more}
 use Rattle.walk.proofs.Loops.{traced-ind}
@@ -47,7 +47,7 @@ mutual
 
   down-goes : (es : List Event) → Goes (reached es) (drawn true es)
   down-goes [] = stops (none [])
-  down-goes (Nothing ∷ es) = down-goes es
+  down-goes (Nothing ∷ es) = stops (up-runs es)
   down-goes (Cut a z ∷ es) = on [] (reached es) z (drawn false es) (up-runs es)
   down-goes (Reach a c ∷ es) = further c (down-goes es)
   down-goes (Pass c ∷ es) = stops (wider c (up-runs es))
@@ -85,8 +85,19 @@ module _ (cs : List Float) (g : Leg) where
       (traced-ind (goes cs g) (onward cs g) (tells cs g) (λ z q. reached (q .told) ≡ []) (λ z. refl) (λ z q h. none-inside z (q .told) ∙ h) s)
       ∙ one-at-end (r .end .pos) (r .end .t)
 
+reached-beginning : (a : Vec2) (es : List Event) → reached (beginningAt a es) ≡ reached es
+reached-beginning a [] = refl
+reached-beginning a (Nothing ∷ es) = refl
+reached-beginning a (Cut b z ∷ es) = refl
+reached-beginning a (Reach b c ∷ es) = refl
+reached-beginning a (Pass c ∷ es) = refl
+
+reached-cut : (b : Bool) (cs : List Float) (g : Leg) (p : Pos) → reached (cutLeg b cs g p .events) ≡ g .to ∷ []
+reached-cut true cs g p = reached-beginning (g .from) (cutFrom cs g (place (turned cs p) f0) .events) ∙ reached-leg cs g (place (turned cs p) f0)
+reached-cut false cs g p = reached-leg cs g (place p f0)
+
 reached-passed : (w : Bool) (cs : List Float) (g : Leg) (p : Pos) → reached (passed w cs g p .events) ≡ cornerIf w (g .to)
-reached-passed true cs g p = reached-leg cs g (place p f0)
+reached-passed true cs g p = reached-cut (eq (p .left) f0) cs g p
 reached-passed false cs g p = refl
 
 reached-walk : (cs : List Float) (a : Vec2) (ps : List Vec2) (p : Pos) → reached (walkFrom cs a ps p) ≡ cornersFrom a ps

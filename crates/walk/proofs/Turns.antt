@@ -1,20 +1,20 @@
 -- The laws by which a proof uses `cutFrom`: where the walk of a leg goes no further, and one turn of it. The position grows at each turn. Assumes nothing.
 use mathlib.Core.Path.{_≡_, refl, sym, ap}
 use mathlib.Core.Logic.{_⊎_, inl, inr}
-use Prim.Native.Nat.{ℕ, _+_, _%_, _≤_, _<_}
-use lib.ListN.{length, getD}
+use Prim.Native.Nat.{ℕ, zero, suc, _+_, _-_, _%_, _≤_, _<_}
+use lib.ListN.{length}
 use native.Mathlib.Nat.{mod-lt, mod-self, mod-eq-of-lt}
 use native.Mathlib.Omega.{arith}
 use mathlib.Core.Bool.{Bool, true, false, not, _&&_, true≢false}
 use mathlib.Core.List.{List, [], _∷_}
 use lib.Dec.{T}
-use lib.Ieee.{Float, nan, binary32, lt, le, fits}
+use lib.Ieee.{Float, binary32, lt, le, fits}
 use lib.Ieee.Fits.{add-fits}
-use Rattle.walk.specs.declared.Pos.{Pos}
 use Rattle.walk.specs.declared.Leg.{Leg}
 use Rattle.walk.specs.declared.Event.{Event}
-use Rattle.float.specs.Arith.{plus, minus, f0}
-use Rattle.walk.specs.Walk.{after, entered, turned, resting, rested, goes, onward, tells, finish, Place, Told, cutFrom}
+use Rattle.float.specs.Arith.{plus, minus}
+use Rattle.walk.specs.Walk.{resting, rested, goes, onward, tells, finish, Place, Told, cutFrom}
+use Rattle.walk.specs.Zeros.{after, zeroAt, above, firstAbove}
 use Rattle.walk.proofs.Loops.{traced-stop, traced-step}
 use Rattle.float.specs.Rank.{rise}
 use Rattle.float.proofs.Rank.{rises, lt-second, sub-second, rise-small}
@@ -73,10 +73,45 @@ next-index i n h = sym (mod-eq-of-lt h)
 pub first-index : (i n : ℕ) → i < n → n ≤ i + 1 → 0 ≡ (i + 1) % n
 first-index i n h g = let e : n ≡ i + 1 = omega arith in rw e (sym (mod-self (i + 1)))
 
--- the next interval, as the code finds it
-module _ (cs : List Float) (p : Pos) (i : ℕ) (e : i ≡ after cs (p .index)) where
-  pub turned-over : (j : ℕ) → j ≡ after cs i → le (getD cs i nan) f0 ≡ true → entered cs j (p .drawing) ≡ turned cs p
-  turned-over j f h = let z : le (getD cs (after cs (p .index)) nan) f0 ≡ true = rw e at h in rw (f, e, z)
+-- ---- zeros passed over
 
-  pub turned-once : le (getD cs i nan) f0 ≡ false → entered cs i (not (p .drawing)) ≡ turned cs p
-  turned-once h = let z : le (getD cs (after cs (p .index)) nan) f0 ≡ false = rw e at h in rw (e, z)
+pub above-in : (cs : List Float) (k : ℕ) (b : Bool) (i : ℕ) → i < length cs → above cs k b i < length cs
+unfolding above
+above-in cs zero b i h = h
+above-in cs (suc k) false i h = h
+above-in cs (suc k) true i h = above-in cs k (zeroAt cs (after cs i)) (after cs i) (after-in i (length cs) h)
+
+above-none : (cs : List Float) (b : Bool) (i : ℕ) → i ≡ above cs zero b i
+unfolding above
+above-none cs b i = refl
+
+above-this : (cs : List Float) (m i : ℕ) → i ≡ above cs (suc m) false i
+unfolding above
+above-this cs m i = refl
+
+above-by : (cs : List Float) (i m : ℕ) (b : Bool) → b ≡ false → i ≡ above cs m b i
+above-by cs i m true e = absurd (true≢false e)
+above-by cs i zero false e = above-none cs false i
+above-by cs i (suc m) false e = above-this cs m i
+
+-- an interval that is not 0 is not passed over
+pub above-here : (cs : List Float) (i : ℕ) → zeroAt cs i ≡ false → i ≡ firstAbove cs i
+above-here cs i h = above-by cs i (length cs) (zeroAt cs i) h
+
+module _ (cs : List Float) (k i : ℕ) where
+  -- one more is passed over
+  pub above-on : zeroAt cs i ≡ true → k < length cs → above cs (length cs - (k + 1)) (zeroAt cs (after cs i)) (after cs i) ≡ above cs (length cs - k) (zeroAt cs i) i
+  unfolding above
+  above-on h l =
+      let e : length cs - k ≡ suc (length cs - (k + 1)) = omega arith in
+      rw (e, h)
+
+  pub above-found : zeroAt cs i ≡ false → i ≡ above cs (length cs - k) (zeroAt cs i) i
+  above-found h = above-by cs i (length cs - k) (zeroAt cs i) h
+
+  pub above-all : length cs ≤ k → i ≡ above cs (length cs - k) (zeroAt cs i) i
+  unfolding above
+  above-all l = let e : length cs - k ≡ 0 = omega arith in rw e
+
+pub above-start : (cs : List Float) (i : ℕ) → above cs (length cs - 0) (zeroAt cs i) i ≡ above cs (length cs) (zeroAt cs i) i
+above-start cs i = let e : length cs - 0 ≡ length cs = omega arith in ap (λ (n : ℕ). above cs n (zeroAt cs i) i) e

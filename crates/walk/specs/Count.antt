@@ -3,11 +3,12 @@ use Prim.Native.Nat.{ℕ, _+_, _≤_, _<_}
 use mathlib.Core.Path.{_≡_}
 use mathlib.Core.Bool.{Bool, true, false, cond}
 use mathlib.Core.List.{List, [], _∷_}
+use lib.Ieee.{Float}
 use Rattle.walk.specs.declared.Event.{Event}
 use Rattle.walk.specs.declared.Event.the-variants.{Nothing, Cut, Reach, Pass}
 use Rattle.walk.specs.declared.Tip.{Tip}
 use Rattle.walk.specs.declared.Walked.{Walked}
-use Rattle.walk.specs.Walk.{Told}
+use Rattle.walk.specs.Walk.{Told, turned}
 
 -- a line more, behind a move where the pen is up
 abbrev pub tallyStroke : Tip → Bool → Tip
@@ -15,7 +16,7 @@ tallyStroke k down = record { at = k .at + cond (k .down) 1 2; down = down }
 
 -- an interval ends inside a leg, drawn or not
 abbrev pub tallyCut : Bool → Tip → Tip
-tallyCut drawing k = cond drawing (tallyStroke k false) k
+tallyCut drawing k = cond drawing (tallyStroke k false) (record { at = k .at; down = false })
 
 -- a corner is reached, drawing or not
 abbrev pub tallyRest : Bool → Tip → Tip
@@ -30,6 +31,11 @@ tallyEvent k (Pass c) = tallyRest false k
 abbrev pub tally : Tip → List Event → Tip
 tally k [] = k
 tally k (e ∷ es) = tally (tallyEvent k e) es
+
+-- the Bool says whether an interval ended where the leg begins (W6): then the pen is up, and the next one begins
+abbrev pub tallyTurn : Bool → List Float → Walked → Walked
+tallyTurn true cs w = record { pos = turned cs (w .pos); tip = tallyCut false (w .tip) }
+tallyTurn false cs w = w
 
 -- where what a leg tells leaves the walk
 abbrev pub tallied : Told → Tip → Walked

@@ -11,10 +11,10 @@ abbrev pub downTo : Bool → Vec2 → Vec2 → List Segment
 downTo true a z = Line z ∷ []
 downTo false a z = Move a ∷ Line z ∷ []
 
--- the Bool says whether the pen is down
+-- the Bool says whether the pen is down; an interval that ends with nothing drawn leaves it up
 abbrev pub drawn : Bool → List Event → List Segment
 drawn d [] = []
-drawn d (Nothing ∷ es) = drawn d es
+drawn d (Nothing ∷ es) = drawn false es
 drawn d (Cut a z ∷ es) = downTo d a z ++ drawn false es
 drawn d (Reach a c ∷ es) = downTo d a c ++ drawn true es
 drawn d (Pass c ∷ es) = drawn false es

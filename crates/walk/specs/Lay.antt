@@ -62,7 +62,7 @@ abbrev pub sheet : List ℕ → List Float → Tip → Sheet
 sheet vs fs t = record { page = out vs fs (t .at); down = t .down }
 
 abbrev pub layEvent : Sheet → Event → Sheet
-layEvent s Nothing = s
+layEvent s Nothing = record { page = s .page; down = false }
 layEvent s (Cut a z) = record { page = stroke (s .down) (s .page) a z; down = false }
 layEvent s (Reach a c) = record { page = stroke (s .down) (s .page) a c; down = true }
 layEvent s (Pass c) = record { page = s .page; down = false }
@@ -70,3 +70,9 @@ layEvent s (Pass c) = record { page = s .page; down = false }
 abbrev pub layAll : Sheet → List Event → Sheet
 layAll s [] = s
 layAll s (e ∷ es) = layAll (layEvent s e) es
+
+-- the first Bool says whether an interval ended where the leg begins, at a (W6), the second whether the next one is drawn: then a move is laid
+abbrev pub layTurn : Bool → Bool → Sheet → Vec2 → Sheet
+layTurn false drawing s a = s
+layTurn true false s a = record { page = s .page; down = false }
+layTurn true true s a = record { page = layVerb (s .page) 0 a; down = true }

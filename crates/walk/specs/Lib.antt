@@ -1,4 +1,5 @@
 pub mod Loop
+pub mod Zeros
 pub mod Walk
 pub mod Phase
 pub mod Drawn
@@ -6,3 +7,4 @@ pub mod Lay
 pub mod Count
 pub mod Runs
 pub mod Lengths
+pub mod Source

@@ -1,12 +1,13 @@
--- Where in the cycle a walk begins (`walk`, dash.rs). Definitions only.
-use Prim.Native.Nat.{ℕ, _+_, _%_}
+-- Where in the cycle a walk begins (`walk`, dash.rs, with zeros passed over). Definitions only.
+use Prim.Native.Nat.{ℕ, _%_}
 use mathlib.Core.Bool.{Bool, not, _&&_}
 use mathlib.Core.List.{List}
-use lib.ListN.{getD, length}
+use lib.ListN.{getD}
 use lib.Dec.{eqb}
 use lib.Ieee.{Float, nan, le}
 use Rattle.float.specs.Small.{maximum, remEuclid}
 use Rattle.walk.specs.Loop.{traced}
+use Rattle.walk.specs.Zeros.{firstAbove, next}
 use Rattle.float.specs.Arith.{minus, f0}
 use Rattle.walk.specs.declared.Pos.{Pos}
 
@@ -21,7 +22,7 @@ phaseGoes cs s =
     le c (s .remaining) && not (le (s .remaining) (minus (s .remaining) c))
 
 abbrev pub phaseNext : List Float → Phase → Phase
-phaseNext cs s = record { index = (s .index + 1) % length cs; remaining = minus (s .remaining) (getD cs (s .index) nan) }
+phaseNext cs s = record { index = next cs (s .index); remaining = minus (s .remaining) (getD cs (s .index) nan) }
 
 abbrev pub phaseFrom : List Float → Phase → Phase
 phaseFrom cs s = traced (phaseGoes cs) (phaseNext cs) (λ z. z .index) s .end
@@ -30,4 +31,4 @@ abbrev pub started : List Float → Phase → Pos
 started cs s = record { index = s .index; left = maximum (minus (getD cs (s .index) nan) (s .remaining)) f0; drawing = eqb (s .index % 2) 0 }
 
 abbrev pub startOf : List Float → Float → Float → Pos
-startOf cs phase period = started cs (phaseFrom cs (record { index = 0; remaining = remEuclid phase period }))
+startOf cs phase period = started cs (phaseFrom cs (record { index = firstAbove cs 0; remaining = remEuclid phase period }))

@@ -1,10 +1,12 @@
--- The walk of a polyline by a dash cycle (`walk`, dash.rs), as events. Each position is one rounded f32 operation after the other, in the source's order.
+-- The walk of a polyline by a dash cycle, as events: that of `walk`, dash.rs, but that intervals of 0 are passed over, and that an interval with exactly
+-- nothing left at a corner, or at the walk's start, ends there (W6). Each position is one rounded f32 operation after the other, in the source's order.
 -- Definitions only.
-use Prim.Native.Nat.{ℕ, _+_, _%_}
+use Prim.Native.Nat.{ℕ, _%_}
 use mathlib.Core.Bool.{Bool, true, false, not, _&&_, cond}
 use mathlib.Core.List.{List, [], _∷_, _++_}
-use lib.ListN.{length, getD}
-use lib.Ieee.{Float, nan, lt, le}
+use lib.ListN.{getD}
+use lib.Dec.{eqb}
+use lib.Ieee.{Float, nan, lt, le, eq}
 use Rattle.float.specs.Arith.{plus, minus, over, f0}
 use Rattle.float.specs.Small.{isFinite}
 use Rattle.vec2.specs.declared.Vec2.{Vec2}
@@ -15,6 +17,7 @@ use Rattle.walk.specs.declared.Leg.{Leg}
 use Rattle.walk.specs.declared.Event.{Event}
 use Rattle.walk.specs.declared.Event.the-variants.{Nothing, Cut, Reach, Pass}
 use Rattle.walk.specs.Loop.{Trace, traced}
+use Rattle.walk.specs.Zeros.{next}
 use Rattle.walk.specs.Drawn.{drawn}
 
 -- ---- one turn
@@ -23,17 +26,13 @@ use Rattle.walk.specs.Drawn.{drawn}
 abbrev pub pointOn : Leg → Float → Vec2
 pointOn g t = g .from ⊕ g .way ⊙ over t (g .length)
 
-abbrev pub after : List Float → ℕ → ℕ
-after cs i = (i + 1) % length cs
+-- all of the interval at i is left; those of even number are drawn
+abbrev pub entered : List Float → ℕ → Pos
+entered cs i = record { index = i; left = getD cs i nan; drawing = eqb (i % 2) 0 }
 
-abbrev pub entered : List Float → ℕ → Bool → Pos
-entered cs i d = record { index = i; left = getD cs i nan; drawing = d }
-
--- the next interval is taken, and the one after it where that is 0 or less
+-- the next interval that is not passed over (W6)
 abbrev pub turned : List Float → Pos → Pos
-turned cs p =
-    let i = after cs (p .index) in
-    cond (le (getD cs i nan) f0) (entered cs (after cs i) (p .drawing)) (entered cs i (not (p .drawing)))
+turned cs p = entered cs (next cs (p .index))
 
 -- the interval ends inside the leg, at t
 abbrev pub inside : Leg → Pos → Float → Event
@@ -78,6 +77,21 @@ module _ (cs : List Float) (g : Leg) where
 abbrev pub place : Pos → Float → Place
 place p t = record { pos = p; t = t }
 
+-- a dash that begins with a leg begins at the leg's first point, copied (W6)
+abbrev pub beginningAt : Vec2 → List Event → List Event
+beginningAt a [] = []
+beginningAt a (Nothing ∷ es) = Nothing ∷ es
+beginningAt a (Cut b z ∷ es) = Cut a z ∷ es
+beginningAt a (Reach b c ∷ es) = Reach a c ∷ es
+beginningAt a (Pass c ∷ es) = Pass c ∷ es
+
+-- the Bool says whether exactly nothing is left of the interval: then it ended where the leg begins, and the next one begins with the leg (W6)
+abbrev pub cutLeg : Bool → List Float → Leg → Pos → Told
+cutLeg false cs g p = cutFrom cs g (place p f0)
+cutLeg true cs g p =
+    let c = cutFrom cs g (place (turned cs p) f0) in
+    record { events = Nothing ∷ beginningAt (g .from) (c .events); pos = c .pos }
+
 -- ---- a polyline
 
 abbrev pub legOf : Vec2 → Vec2 → Leg
@@ -88,7 +102,7 @@ abbrev pub counts : Leg → Bool
 counts g = isFinite (g .length) && not (le (g .length) f0)
 
 abbrev pub passed : Bool → List Float → Leg → Pos → Told
-passed true cs g p = cutFrom cs g (place p f0)
+passed true cs g p = cutLeg (eq (p .left) f0) cs g p
 passed false cs g p = record { events = []; pos = p }
 
 unfoldable pub walkFrom : List Float → Vec2 → List Vec2 → Pos → List Event

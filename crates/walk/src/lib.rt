@@ -1,19 +1,20 @@
 // The walk of a polyline by a dash cycle: first counted, then laid.
 ghost use mathlib.Core.Path.{_≡_};
-ghost use mathlib.Core.Bool.{false, not, _&&_};
+ghost use mathlib.Core.Bool.{true, false, not, _&&_};
 ghost use Prim.Native.Nat.{_+_, _*_, _^_, _≤_, _<_};
-ghost use lib.ListN.{length};
-ghost use lib.Ieee.{le};
+ghost use lib.ListN.{length, drop};
+ghost use lib.Ieee.{le, eq};
 ghost use Rattle.float.specs.Arith.{f0};
 ghost use Rattle.float.specs.Small.{isFinite};
 ghost use Rattle.vec2.specs.Vec2.{_⊖_, len};
 ghost use Rattle.vec2.specs.Points.{pointsIn};
-ghost use Rattle.walk.specs.Walk.{after, turned, pointOn, inside as insideOf, resting as restingOf, rested, place, cutFrom, passed, counts, legOf, walkPolyline};
+ghost use Rattle.walk.specs.Zeros.{after, firstAbove, next, oneAbove, gapsOnly};
+ghost use Rattle.walk.specs.Walk.{turned, pointOn, inside as insideOf, resting as restingOf, rested, place, cutFrom, passed, counts, legOf, walkPolyline};
 ghost use Rattle.walk.specs.Lengths.{Kept, KeptAt};
 ghost use Rattle.walk.specs.Phase.{startOf};
 ghost use Rattle.walk.specs.Drawn.{drawn};
-ghost use Rattle.walk.specs.Lay.{sheet, out, layVerb, stroke, layEvent, layAll, laid, Room};
-ghost use Rattle.walk.specs.Count.{tallyStroke, tallyCut, tallyRest, tallied, UpTo, laidBy, itself};
+ghost use Rattle.walk.specs.Lay.{sheet, out, layVerb, stroke, layEvent, layAll, layTurn, laid, Room};
+ghost use Rattle.walk.specs.Count.{tallyStroke, tallyCut, tallyRest, tallyTurn, tallied, UpTo, laidBy, itself};
 use vec2::Vec2;
 
 // Where the walk is in the cycle. `left` is what is left of the interval at `index`.
@@ -32,7 +33,8 @@ pub struct Leg {
 }
 
 // What a turn of the walk tells. Cut: a dash ends inside a leg, at the second point. Reach: a corner, the second point, is reached while drawing.
-// Both give the point where the dash began, if the pen was up. Pass: a corner is reached in a gap. Nothing: a gap ends inside a leg.
+// Both give the point where the dash began, if the pen was up. Pass: a corner is reached in a gap. Nothing: a gap ends inside a leg, or an interval ended
+// where the leg begins; the pen is up.
 pub enum Event {
     Nothing,
     Cut(Vec2, Vec2),
@@ -51,33 +53,7 @@ pub struct Walked {
     pub tip: Tip,
 }
 
-// ---- the phase
-
-// Where in the cycle a walk begins. What remains of the phase falls at each turn, or the loop is left.
-pub fn start_of(cycle: &[f32], phase: f32, period: f32) -> Pos
-    requires { ⌜ 0 < length (now cycle) ⌝ }
-    ensures started { λ r. ⌜ r ≡ startOf (now (cycle .entry)) phase period ⌝ }
-    ensures indexed { λ r. ⌜ r .index < length (now (cycle .entry)) ⌝ }
-{
-    let mut remaining = float::rem_euclid(phase, period);
-    let mut index = 0usize;
-    while remaining >= cycle[index] {
-        let next = remaining - cycle[index];
-        if next >= remaining {
-            break;
-        }
-        remaining = next;
-        index = (index + 1) % cycle.len();
-    }
-    let left = float::max(cycle[index] - remaining, 0.0);
-    Pos {
-        index,
-        left,
-        drawing: index % 2 == 0,
-    }
-}
-
-// ---- one turn
+// ---- the cycle
 
 // The next interval's number.
 fn index_after(cycle: &[f32], index: usize) -> usize
@@ -90,25 +66,102 @@ fn index_after(cycle: &[f32], index: usize) -> usize
     0
 }
 
-// The next interval, or the one after it where the next is 0.
+// The first interval from `index` on that is not 0; once round where all are.
+fn first_above(cycle: &[f32], index: usize) -> usize
+    requires { ⌜ index < length (now cycle) ⌝ }
+    ensures { λ r. ⌜ (r ≡ firstAbove (now (cycle .entry)) index) × (r < length (now (cycle .entry))) ⌝ }
+{
+    let mut i = index;
+    let mut k = 0usize;
+    while k < cycle.len() {
+        let c = cycle[i];
+        if c <= 0.0 {
+            i = index_after(cycle, i);
+            k += 1;
+        } else {
+            return i;
+        }
+    }
+    i
+}
+
+// The next one that is not 0. Mostly it is the next: then no loop is entered.
+fn next_above(cycle: &[f32], index: usize) -> usize
+    requires { ⌜ index < length (now cycle) ⌝ }
+    ensures { λ r. ⌜ (r ≡ next (now (cycle .entry)) index) × (r < length (now (cycle .entry))) ⌝ }
+{
+    let i = index_after(cycle, index);
+    let c = cycle[i];
+    if c <= 0.0 {
+        return first_above(cycle, i);
+    }
+    i
+}
+
+// Whether the interval at `from`, or each second one after it, has one above 0.
+fn one_above(cycle: &[f32], from: usize) -> bool
+    ensures { λ r. ⌜ r ≡ oneAbove (drop from (now (cycle .entry))) ⌝ }
+{
+    let mut i = from;
+    while i < cycle.len() {
+        let c = cycle[i];
+        if c <= 0.0 {
+            i += 2;
+        } else {
+            return true;
+        }
+    }
+    false
+}
+
+// No drawn interval is above 0, and some gap is: whatever is walked, nothing is drawn.
+pub fn gaps_only(cycle: &[f32]) -> bool
+    ensures { λ r. ⌜ r ≡ gapsOnly (now (cycle .entry)) ⌝ }
+{
+    if one_above(cycle, 0) {
+        return false;
+    }
+    one_above(cycle, 1)
+}
+
+// ---- the phase
+
+// Where in the cycle a walk begins. What remains of the phase falls at each turn, or the loop is left.
+pub fn start_of(cycle: &[f32], phase: f32, period: f32) -> Pos
+    requires { ⌜ 0 < length (now cycle) ⌝ }
+    ensures started { λ r. ⌜ r ≡ startOf (now (cycle .entry)) phase period ⌝ }
+    ensures indexed { λ r. ⌜ r .index < length (now (cycle .entry)) ⌝ }
+{
+    let mut remaining = float::rem_euclid(phase, period);
+    let mut index = first_above(cycle, 0);
+    while remaining >= cycle[index] {
+        let next = remaining - cycle[index];
+        if next >= remaining {
+            break;
+        }
+        remaining = next;
+        index = next_above(cycle, index);
+    }
+    let left = float::max(cycle[index] - remaining, 0.0);
+    Pos {
+        index,
+        left,
+        drawing: index % 2 == 0,
+    }
+}
+
+// ---- one turn
+
+// The next interval that is not 0. Those of even number are drawn.
 fn next_interval(cycle: &[f32], p: Pos) -> Pos
     requires { ⌜ p .index < length (now cycle) ⌝ }
     ensures { λ r. ⌜ (r ≡ turned (now (cycle .entry)) p) × (r .index < length (now (cycle .entry))) ⌝ }
 {
-    let i = index_after(cycle, p.index);
-    let left = cycle[i];
-    if left <= 0.0 {
-        let j = index_after(cycle, i);
-        return Pos {
-            index: j,
-            left: cycle[j],
-            drawing: p.drawing,
-        };
-    }
+    let i = next_above(cycle, p.index);
     Pos {
         index: i,
-        left,
-        drawing: !p.drawing,
+        left: cycle[i],
+        drawing: i % 2 == 0,
     }
 }
 
@@ -226,7 +279,10 @@ fn count_cut(k: Tip, drawing: bool) -> Tip
     if drawing {
         return add_stroke(k, false);
     }
-    k
+    Tip {
+        at: k.at,
+        down: false,
+    }
 }
 
 fn count_rest(k: Tip, drawing: bool) -> Tip
@@ -268,6 +324,24 @@ fn count_leg(cycle: &[f32], g: Leg, w: Walked, cap: usize) -> Walked
     Walked { pos, tip }
 }
 
+// Where exactly nothing is left of the interval it ended where the leg begins: the pen is up, and the next one begins.
+fn turn_count(cycle: &[f32], w: Walked) -> Walked
+    requires { ⌜ w .pos .index < length (now cycle) ⌝ }
+    ensures { λ r. ⌜ (r ≡ tallyTurn (eq (w .pos .left) f0) (now (cycle .entry)) w) × (r .pos .index < length (now (cycle .entry))) ⌝ }
+{
+    let p = w.pos;
+    if p.left == 0.0 {
+        let pos = next_interval(cycle, p);
+        let k = w.tip;
+        let tip = Tip {
+            at: k.at,
+            down: false,
+        };
+        return Walked { pos, tip };
+    }
+    w
+}
+
 // Counts a leg, or passes over one that is not walked.
 fn pass_count(cycle: &[f32], g: Leg, w: Walked, cap: usize) -> Walked
     requires { ⌜ (w .pos .index < length (now cycle)) × (w .tip .at ≤ cap) × (cap < 2 ^ 61) ⌝ }
@@ -275,7 +349,8 @@ fn pass_count(cycle: &[f32], g: Leg, w: Walked, cap: usize) -> Walked
     ensures indexed { λ r. ⌜ r .pos .index < length (now (cycle .entry)) ⌝ }
 {
     if is_walked(g.length) {
-        return count_leg(cycle, g, w, cap);
+        let v = turn_count(cycle, w);
+        return count_leg(cycle, g, v, cap);
     }
     w
 }
@@ -354,7 +429,7 @@ fn put(verbs: &mut [u8], floats: &mut [f32], tip: Tip, e: Event) -> Tip
     match e {
         Event::Nothing => Tip {
             at: tip.at,
-            down: tip.down,
+            down: false,
         },
         Event::Cut(a, z) => {
             let at = lay_stroke(verbs, floats, tip, a, z);
@@ -399,6 +474,40 @@ fn lay_leg(cycle: &[f32], g: Leg, w: Walked, verbs: &mut [u8], floats: &mut [f32
     Walked { pos, tip }
 }
 
+// Begins an interval where a leg begins, at a: a drawn one by a move.
+fn begin(verbs: &mut [u8], floats: &mut [f32], tip: Tip, drawing: bool, a: Vec2) -> Tip
+    requires { ⌜ Room (length (now verbs)) (length (now floats)) (layTurn true drawing (sheet (now verbs) (now floats) tip) a .page) ⌝ }
+    ensures { λ r. ⌜ sheet (now (verbs .exit)) (now (floats .exit)) r ≡ layTurn true drawing (sheet (now (verbs .entry)) (now (floats .entry)) tip) a ⌝ }
+{
+    if drawing {
+        let at = lay(verbs, floats, tip.at, 0, a);
+        return Tip { at, down: true };
+    }
+    Tip {
+        at: tip.at,
+        down: false,
+    }
+}
+
+// Where exactly nothing is left of the interval it ended where the leg begins, at a, and the next one begins there.
+fn turn_leg(cycle: &[f32], a: Vec2, w: Walked, verbs: &mut [u8], floats: &mut [f32]) -> Walked
+    requires { ⌜ (w .pos .index < length (now cycle))
+        × Room (length (now verbs)) (length (now floats)) (layTurn (eq (w .pos .left) f0) (turned (now cycle) (w .pos) .drawing) (sheet (now verbs) (now floats) (w .tip)) a .page) ⌝ }
+    ensures turned { λ r. ⌜ r .pos ≡ tallyTurn (eq (w .pos .left) f0) (now (cycle .entry)) w .pos ⌝ }
+    ensures laid { λ r. ⌜ sheet (now (verbs .exit)) (now (floats .exit)) (r .tip)
+        ≡ layTurn (eq (w .pos .left) f0) (turned (now (cycle .entry)) (w .pos) .drawing) (sheet (now (verbs .entry)) (now (floats .entry)) (w .tip)) a ⌝ }
+    ensures indexed { λ r. ⌜ r .pos .index < length (now (cycle .entry)) ⌝ }
+{
+    let p = w.pos;
+    if p.left == 0.0 {
+        let pos = next_interval(cycle, p);
+        let k = w.tip;
+        let tip = begin(verbs, floats, k, pos.drawing, a);
+        return Walked { pos, tip };
+    }
+    w
+}
+
 // Walks a leg, or passes over one that is not walked: the pen stays as it is.
 fn pass_leg(cycle: &[f32], g: Leg, w: Walked, verbs: &mut [u8], floats: &mut [f32]) -> Walked
     requires { ⌜ (w .pos .index < length (now cycle))
@@ -409,7 +518,8 @@ fn pass_leg(cycle: &[f32], g: Leg, w: Walked, verbs: &mut [u8], floats: &mut [f3
     ensures indexed { λ r. ⌜ r .pos .index < length (now (cycle .entry)) ⌝ }
 {
     if is_walked(g.length) {
-        return lay_leg(cycle, g, w, verbs, floats);
+        let v = turn_leg(cycle, g.from, w, verbs, floats);
+        return lay_leg(cycle, g, v, verbs, floats);
     }
     w
 }

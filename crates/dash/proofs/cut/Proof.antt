@@ -46,32 +46,26 @@ returns c =
     let u = full (now (a .verbs)) (now (a .points)) (a .tolerance) (now (a .scratch)) (now (a .ends)) (now (a .marks)) (c .before .before .before .before .before .before .before .before .before .before .before .before .before .before .before .before .before .before .before .before .before .pre .0) (c .before .before .before .before .before .before .before .before .before .before .before .before .before .before .before .before .before .before .before .before .before .pre .1) (f .result) _ _ _ (f .ensures) (c .if1 .taken) in
     scratch-full (now (a .verbs)) (now (a .points)) (a .rule) (now (a .intervals)) (a .phase) (a .tolerance) (now (a .scratch)) (now (a .ends)) (now (a .marks)) (now (a .vs)) (now (a .fs)) (u .misfit) _ _ _ (u .scratch-is) (u .ends-are) (u .marks-are)
 
-sum-of-requires : tie.Need-sum-of-requires
-sum-of-requires c κs = search needs
-
-start-of-requires : tie.Need-start-of-requires
-start-of-requires c κs = search needs
-
 mul-n : tie.Need-mul-n
-mul-n c = omega (arith, left (c .before .before .before) .room, c .before .before .before .before .before .before .before .before .before .before .before .flatten .kept, c .before .before .before .before .before .before .before .before .before .before .before .before .before .before .before .before .before .before .before .before .before .before .before .before .good)
+mul-n c = omega (arith, left (c .before) .room, c .before .before .before .before .before .before .before .before .before .flatten .kept, c .before .before .before .before .before .before .before .before .before .before .before .before .before .before .before .before .before .before .before .before .before .before .good)
 
-slice-reshare-prefix-cut-all : tie.Need-slice-reshare-prefix-cut-all
-slice-reshare-prefix-cut-all c = left (c .before .before .before) .room
+slice-reshare-prefix-cut-scratch : tie.Need-slice-reshare-prefix-cut-scratch
+slice-reshare-prefix-cut-scratch c = left (c .before) .room
 
-slice-aggregate-cut-all : tie.Need-slice-aggregate-cut-all
-slice-aggregate-cut-all c = sym (length-take-le _ _ (left (c .before .before .before .before) .room))
+slice-aggregate-cut-scratch : tie.Need-slice-aggregate-cut-scratch
+slice-aggregate-cut-scratch c = sym (length-take-le _ _ (left (c .before .before) .room))
 
-slice-reshare-prefix-cut-all-2 : tie.Need-slice-reshare-prefix-cut-all-2
-slice-reshare-prefix-cut-all-2 c = left (c .before .before .before .before) .rooms
+slice-reshare-prefix-cut-scratch-2 : tie.Need-slice-reshare-prefix-cut-scratch-2
+slice-reshare-prefix-cut-scratch-2 c = left (c .before .before) .rooms
 
-slice-aggregate-cut-all-2 : tie.Need-slice-aggregate-cut-all-2
-slice-aggregate-cut-all-2 c = sym (length-take-le _ _ (left (c .before .before .before .before .before) .rooms))
+slice-aggregate-cut-scratch-2 : tie.Need-slice-aggregate-cut-scratch-2
+slice-aggregate-cut-scratch-2 c = sym (length-take-le _ _ (left (c .before .before .before) .rooms))
 
-cut-all-requires : tie.Need-cut-all-requires
-cut-all-requires c κs =
-    let a = c .before .before .before .before .before .before .before .before .before .before .before .before .before .before .before .before .before .before .before .before .before .before .before .before .before .before .before .before .args in
-    let k = left (c .before .before .before .before .before .before .before) in (
-      c .before .before .before .before .before .start-of .ensures .1,
+cut-scratch-requires : tie.Need-cut-scratch-requires
+cut-scratch-requires c κs =
+    let a = c .before .before .before .before .before .before .before .before .before .before .before .before .before .before .before .before .before .before .before .before .before .before .before .before .before .before .args in
+    let k = left (c .before .before .before .before .before) in (
+      c .before .before .before .before .before .before .before .before .before .before .before .before .before .before .before .before .before .before .before .before .before .before .before .before .before .before .pre .3,
       ordered (ap length (k .points) ∙ length-flat (pointsOut (a .tolerance) (segments (now (a .verbs)) (now (a .points))))) (k .polylines) (ends-ordered (a .tolerance) (segments (now (a .verbs)) (now (a .points)))),
     )
 
@@ -92,12 +86,12 @@ same-length-8 c = search needs
 
 returns-2 : tie.Need-returns-2
 returns-2 c =
-    let a = c .before .before .before .before .before .before .before .before .before .before .before .before .before .before .before .before .before .before .before .before .before .before .before .before .before .before .before .before .before .before .before .before .before .args in
-    let f = c .before .before .before .before .before .before .before .before .before .before .before .before .before .before .before .before .before .before .before .before .flatten in
-    let k = left (c .before .before .before .before .before .before .before .before .before .before .before .before) in
+    let a = c .before .before .before .before .before .before .before .before .before .before .before .before .before .before .before .before .before .before .before .before .before .before .before .before .before .before .before .before .before .before .before .args in
+    let f = c .before .before .before .before .before .before .before .before .before .before .before .before .before .before .before .before .before .before .flatten in
+    let k = left (c .before .before .before .before .before .before .before .before .before .before) in
     scratch-kept (now (a .verbs)) (now (a .points)) (a .rule) (now (a .intervals)) (a .phase) (a .tolerance) (now (a .scratch)) (now (a .ends)) (now (a .marks)) (now (a .vs)) (now (a .fs)) (k .fit) _ _ _ (k .scratch-is) (k .ends-are) (k .marks-are)
     (take (2 * f .result .points) (f .last .1 .1 .1 .0)) (take (f .result .polylines) (f .last .1 .1 .1 .1 .0)) (k .points) (k .polylines)
-    (now (a .cycle)) (c .before .before .before .before .before .before .before .before .before .before .before .before .before .before .before .before .before .before .before .before .before .before .before .before .before .before .before .before .before .before .before .before .before .pre .2) (c .before .before .before .before .before .before .before .before .before .before .before .sum-of .result) (c .before .before .before .before .before .before .before .before .before .before .before .sum-of .ensures) (c .before .before .before .before .before .before .before .before .before .before .start-of .result) (c .before .before .before .before .before .before .before .before .before .before .start-of .ensures .0) (f .result .held) (k .held) _ _ _ (c .before .before .before .before .cut-all .ensures)
+    (now (a .cycle)) (c .before .before .before .before .before .before .before .before .before .before .before .before .before .before .before .before .before .before .before .before .before .before .before .before .before .before .before .before .before .before .before .pre .2) (f .result .held) (k .held) _ _ _ (c .before .before .before .before .cut-scratch .ensures)
 
 pub cut-spec : {M : Type 1} → statement M
 cut-spec =
@@ -108,14 +102,12 @@ cut-spec =
     same-length-2
     same-length-3
     returns
-    sum-of-requires
-    start-of-requires
     mul-n
-    slice-reshare-prefix-cut-all
-    slice-aggregate-cut-all
-    slice-reshare-prefix-cut-all-2
-    slice-aggregate-cut-all-2
-    cut-all-requires
+    slice-reshare-prefix-cut-scratch
+    slice-aggregate-cut-scratch
+    slice-reshare-prefix-cut-scratch-2
+    slice-aggregate-cut-scratch-2
+    cut-scratch-requires
     same-length-4
     same-length-5
     same-length-6

@@ -10,7 +10,7 @@ returns : tie.Need-returns
 returns c = rw (c .before .if1 .taken) (c .add-stroke .ensures)
 
 returns-2 : tie.Need-returns-2
-returns-2 c = search needs
+returns-2 c = rw (c .if1 .left)
 
 pub count-cut-spec : {M : Type 1} → statement M
 count-cut-spec = tie.close (tie.spec add-stroke-requires returns returns-2)

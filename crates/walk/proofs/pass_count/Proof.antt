@@ -1,9 +1,13 @@
 -- `pass_count` meets its contract. Assumes nothing.
 use mathlib.Core.Path.{sym, _∙_, ap, subst}
+use native.Mathlib.Omega.{arith}
 use denote.Ref.{now}
+use lib.Ieee.{eq}
+use Rattle.float.specs.Arith.{f0}
+use Rattle.walk.specs.declared.Walked.{Walked}
 use Rattle.walk.specs.Walk.{Told, counts}
 use Rattle.walk.specs.Count.{tallied, UpTo, laidBy}
-use Rattle.walk.proofs.Counts.{through}
+use Rattle.walk.proofs.Counts.{through, turned-counts, turned-at}
 use Rattle.walk.proofs.Lines.{did, did-not}
 use borrow.Author.Needs.{needs}
 use Rattle.walk.proofs.pass_count.Statement.{statement}
@@ -12,14 +16,22 @@ use Rattle.walk.proofs.pass_count.Tie as tie
 is-walked-requires : tie.Need-is-walked-requires
 is-walked-requires c κs = search needs
 
+turn-count-requires : tie.Need-turn-count-requires
+turn-count-requires c κs = c .before .before .before .pre .0
+
 count-leg-requires : tie.Need-count-leg-requires
-count-leg-requires c κs = search needs
+count-leg-requires c κs =
+    let a = c .before .before .before .before .args in
+    let t = c .turn-count in
+    (t .ensures .1, omega (arith, c .before .before .before .before .pre .1, turned-at (eq (a .w .pos .left) f0) (now (a .cycle)) (a .w) (t .result) (t .ensures .0)), c .before .before .before .before .pre .2)
 
 returns : tie.Need-returns
 returns c =
-    let a = c .before .before .before .before .args in
-    let d = did (counts (a .g)) (now (a .cycle)) (a .g) (a .w .pos) (sym (c .before .before .is-walked .ensures) ∙ c .before .if1 .taken) in
-    (subst (λ (z : Told). UpTo laidBy (a .cap) (tallied z (a .w .tip)) (c .count-leg .result)) d (c .count-leg .ensures .0), c .count-leg .ensures .1)
+    let a = c .before .before .before .before .before .args in
+    let t = c .before .turn-count in
+    let d = did (counts (a .g)) (now (a .cycle)) (a .g) (a .w .pos) (sym (c .before .before .before .is-walked .ensures) ∙ c .before .before .if1 .taken) in
+    let e = turned-counts (eq (a .w .pos .left) f0) (now (a .cycle)) (a .w) (t .result) (t .ensures .0) (a .g) ∙ ap (λ (z : Told). tallied z (a .w .tip)) d in
+    (subst (λ (z : Walked). UpTo laidBy (a .cap) z (c .count-leg .result)) e (c .count-leg .ensures .0), c .count-leg .ensures .1)
 
 returns-2 : tie.Need-returns-2
 returns-2 c =
@@ -28,4 +40,4 @@ returns-2 c =
     (through laidBy (a .cap) _ _ (ap (λ (z : Told). tallied z (a .w .tip)) d), c .before .before .before .pre .0)
 
 pub pass-count-spec : {M : Type 1} → statement M
-pass-count-spec = tie.close (tie.spec is-walked-requires count-leg-requires returns returns-2)
+pass-count-spec = tie.close (tie.spec is-walked-requires turn-count-requires count-leg-requires returns returns-2)

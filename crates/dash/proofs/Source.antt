@@ -1,0 +1,66 @@
+-- Where the source still decides, the dashes are its own. Assumes nothing.
+use mathlib.Core.Path.{_≡_, refl, sym}
+use Prim.Native.Nat.{ℕ, _%_, _<_}
+use native.Mathlib.Omega.{arith}
+use mathlib.Core.Bool.{Bool, true, false, not, _&&_, cond, true≢false}
+use mathlib.Core.List.{List, [], _∷_, _++_}
+use lib.ListN.{length, length-append}
+use lib.Dec.{eqb}
+use lib.Ieee.{Float, le}
+use borrow.Author.Tests.{eqb-true, not-true}
+use Rattle.float.specs.Arith.{f0}
+use Rattle.vec2.specs.declared.Vec2.{Vec2}
+use Rattle.flatten.specs.Polylines.{polylines}
+use Rattle.pattern.specs.Cycle.{some, cycleOf, period}
+use Rattle.walk.specs.Source.{noZero, exactAny}
+use Rattle.walk.proofs.Source.{all-as-source}
+use Rattle.dash.specs.Dash.{dashes}
+use Rattle.dash.specs.Source.{sourceStart, sourceDashes, sourceDecides}
+
+first : (a b : Bool) → a && b ≡ true → a ≡ true
+first true b h = refl
+first false b h = h
+
+second : (a b : Bool) → a && b ≡ true → b ≡ true
+second true b h = h
+second false b h = absurd (true≢false (sym h))
+
+both : (a b : Bool) → a ≡ true → b ≡ true → a && b ≡ true
+both a b p q = rw (p, q)
+
+no-zero-twice : (xs ys : List Float) → noZero xs ≡ true → noZero ys ≡ true → noZero (xs ++ ys) ≡ true
+no-zero-twice [] ys h k = k
+no-zero-twice (x ∷ xs) ys h k = both (not (le x f0)) (noZero (xs ++ ys)) (first (not (le x f0)) (noZero xs) h) (no-zero-twice xs ys (second (not (le x f0)) (noZero xs) h) k)
+
+-- the working cycle has no zero either, and its length is even and not 0
+module _ (xs : List Float) (h : noZero xs ≡ true) (k : some xs ≡ true) where
+  cycle-no-zero : noZero (cycleOf xs) ≡ true
+  cycle-no-zero = go (eqb (length xs % 2) 0)
+    where
+      go : (b : Bool) → noZero (cond b xs (xs ++ xs)) ≡ true
+      go true = h
+      go false = no-zero-twice xs xs h h
+
+  cycle-even : length (cycleOf xs) % 2 ≡ 0
+  cycle-even = go (eqb (length xs % 2) 0) refl
+    where
+      go : (b : Bool) → eqb (length xs % 2) 0 ≡ b → length (cond b xs (xs ++ xs)) % 2 ≡ 0
+      go true e = eqb-true _ _ e
+      go false e = omega (arith, length-append xs xs)
+
+  cycle-some : 0 < length (cycleOf xs)
+  cycle-some = go xs (eqb (length xs % 2) 0) k
+    where
+      go : (l : List Float) (b : Bool) → some l ≡ true → 0 < length (cond b l (l ++ l))
+      go [] b e = absurd (true≢false (sym e))
+      go (x ∷ l) true e = omega arith
+      go (x ∷ l) false e = omega arith
+
+pub dashes-as-source : (intervals : List Float) (phase : Float) (ps : List Vec2) (es : List ℕ) → sourceDecides intervals phase ps es ≡ true → dashes intervals phase ps es ≡ sourceDashes intervals phase ps es
+dashes-as-source intervals phase ps es h =
+    let met = exactAny (cycleOf intervals) (sourceStart intervals phase) (polylines 0 ps es) in
+    let p = first (some intervals && noZero intervals) (not met) h in
+    let z = second (some intervals) (noZero intervals) p in
+    let s = first (some intervals) (noZero intervals) p in
+    all-as-source (cycleOf intervals) (cycle-no-zero intervals z s) (cycle-even intervals z s) (cycle-some intervals z s) phase (period intervals) (polylines 0 ps es)
+    (not-true met (second (some intervals && noZero intervals) (not met) h))

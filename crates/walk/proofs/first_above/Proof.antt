@@ -1,0 +1,68 @@
+-- `first_above` meets its contract. Assumes nothing.
+use mathlib.Core.Path.{_≡_, _∙_, ap}
+use Prim.Native.Nat.{ℕ, _+_, _-_, _≤_, _<_}
+use native.Mathlib.Omega.{arith}
+use denote.Ref.{now}
+use lib.ListN.{length}
+use Rattle.walk.specs.Zeros.{zeroAt, above, firstAbove}
+use Rattle.walk.proofs.Turns.{above-on, above-found, above-all, above-start}
+use Rattle.walk.proofs.first_above.Statement.{statement}
+use Rattle.walk.proofs.first_above.Tie as tie
+
+abbrev Inv-loop : tie.InvT-loop
+Inv-loop cycle index i₀ k₀ i k = (above cycle (length cycle - k) (zeroAt cycle i) i ≡ firstAbove cycle index) × (i < length cycle) × (k ≤ length cycle)
+
+abbrev μ-loop : tie.MeasureT-loop
+μ-loop cycle index i₀ k₀ i k = length cycle - k
+
+loop-holds : tie.Need-loop-holds Inv-loop μ-loop
+loop-holds c = (above-start _ _, c .before .pre, omega arith)
+
+mul-c : tie.Need-mul-c Inv-loop μ-loop
+mul-c c = omega arith
+
+shared-slice-read-c : tie.Need-shared-slice-read-c Inv-loop μ-loop
+shared-slice-read-c c = omega arith
+
+index-after-requires : tie.Need-index-after-requires Inv-loop μ-loop
+index-after-requires c κs = c .before .before .before .loop .inv .1
+
+add-k : tie.Need-add-k Inv-loop μ-loop
+add-k c = omega arith
+
+loop-less : tie.Need-loop-less Inv-loop μ-loop
+loop-less c = omega arith
+
+loop-again : tie.Need-loop-again Inv-loop μ-loop
+loop-again c =
+    let l = c .before .before .before .before .loop in
+    let a = c .before .before .before .before .before .before .args in
+    let e = c .index-after .ensures in
+    let h = c .before .before .before .loop-test .taken in
+    (ap (λ (j : ℕ). above (now (a .cycle)) (length (now (a .cycle)) - (l .k + 1)) (zeroAt (now (a .cycle)) j) j) (e .0) ∙ above-on (now (a .cycle)) (l .k) (l .i) (c .before .if1 .taken) h ∙ l .inv .0, e .1, omega (arith, h))
+
+returns : tie.Need-returns Inv-loop μ-loop
+returns c =
+    let l = c .before .before .before .loop in
+    (above-found (now (c .before .before .before .before .before .args .cycle)) (l .k) (l .i) (c .if1 .left) ∙ l .inv .0, l .inv .1)
+
+returns-2 : tie.Need-returns-2 Inv-loop μ-loop
+returns-2 c =
+    let l = c .before .loop in
+    (above-all (now (c .before .before .before .args .cycle)) (l .k) (l .i) (c .loop-test .left) ∙ l .inv .0, l .inv .1)
+
+pub first-above-spec : {M : Type 1} → statement M
+first-above-spec =
+    tie.close
+    (tie.spec
+    Inv-loop
+    μ-loop
+    loop-holds
+    mul-c
+    shared-slice-read-c
+    index-after-requires
+    add-k
+    loop-less
+    loop-again
+    returns
+    returns-2)

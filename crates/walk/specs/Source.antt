@@ -1,0 +1,102 @@
+-- The source's walk as it stands (`walk`, dash.rs), where W6 parts from it: what is not said here anew is said once for both. It still decides where no
+-- interval is 0 and no walked segment begins with exactly nothing left. Definitions only.
+use Prim.Native.Nat.{ℕ}
+use mathlib.Core.Bool.{Bool, true, false, not, _&&_, _||_, cond}
+use mathlib.Core.List.{List, [], _∷_, _++_}
+use lib.ListN.{getD}
+use lib.Ieee.{Float, nan, eq}
+use Rattle.float.specs.Arith.{plus, minus, f0}
+use Rattle.float.specs.Small.{remEuclid}
+use Rattle.vec2.specs.declared.Vec2.{Vec2}
+use Rattle.path.specs.declared.Segment.{Segment}
+use Rattle.walk.specs.declared.Pos.{Pos}
+use Rattle.walk.specs.declared.Leg.{Leg}
+use Rattle.walk.specs.declared.Event.{Event}
+use Rattle.walk.specs.declared.Event.the-variants.{Nothing, Cut, Reach, Pass}
+use Rattle.walk.specs.Loop.{traced}
+use Rattle.walk.specs.Zeros.{after, isZero}
+use Rattle.walk.specs.Drawn.{downTo}
+use Rattle.walk.specs.Phase.{Phase, phaseGoes, started}
+use Rattle.walk.specs.Walk.{Place, place, Told, goes, tells, finish, legOf, counts}
+
+-- ---- the phase
+
+abbrev pub phaseNext : List Float → Phase → Phase
+phaseNext cs s = record { index = after cs (s .index); remaining = minus (s .remaining) (getD cs (s .index) nan) }
+
+abbrev pub phaseFrom : List Float → Phase → Phase
+phaseFrom cs s = traced (phaseGoes cs) (phaseNext cs) (λ z. z .index) s .end
+
+abbrev pub startOf : List Float → Float → Float → Pos
+startOf cs phase period = started cs (phaseFrom cs (record { index = 0; remaining = remEuclid phase period }))
+
+-- ---- a leg
+
+abbrev pub entered : List Float → ℕ → Bool → Pos
+entered cs i d = record { index = i; left = getD cs i nan; drawing = d }
+
+-- the next interval is taken, and the one after it where that is 0
+abbrev pub turned : List Float → Pos → Pos
+turned cs p =
+    let i = after cs (p .index) in
+    cond (isZero (getD cs i nan)) (entered cs (after cs i) (p .drawing)) (entered cs i (not (p .drawing)))
+
+module _ (cs : List Float) (g : Leg) where
+  abbrev pub onward : Place → Place
+  onward s = record { pos = turned cs (s .pos); t = plus (s .t) (s .pos .left) }
+
+  unfoldable pub cutFrom : Place → Told
+  cutFrom s = finish cs g (traced (goes cs g) onward (tells cs g) s)
+
+-- ---- a polyline
+
+-- an interval with nothing left goes on
+abbrev pub passed : Bool → List Float → Leg → Pos → Told
+passed true cs g p = cutFrom cs g (place p f0)
+passed false cs g p = record { events = []; pos = p }
+
+unfoldable pub walkFrom : List Float → Vec2 → List Vec2 → Pos → List Event
+walkFrom cs a [] p = []
+walkFrom cs a (b ∷ ps) p =
+    let g = legOf a b in
+    let c = passed (counts g) cs g p in
+    c .events ++ walkFrom cs b ps (c .pos)
+
+abbrev pub walkPolyline : List Float → Pos → List Vec2 → List Event
+walkPolyline cs start [] = []
+walkPolyline cs start (a ∷ ps) = walkFrom cs a ps start
+
+-- the Bool says whether the pen is down; a gap that ends leaves it as it is
+abbrev pub drawn : Bool → List Event → List Segment
+drawn d [] = []
+drawn d (Nothing ∷ es) = drawn d es
+drawn d (Cut a z ∷ es) = downTo d a z ++ drawn false es
+drawn d (Reach a c ∷ es) = downTo d a c ++ drawn true es
+drawn d (Pass c ∷ es) = drawn false es
+
+abbrev pub walkAll : List Float → Pos → List (List Vec2) → List Segment
+walkAll cs start [] = []
+walkAll cs start (p ∷ ps) = drawn false (walkPolyline cs start p) ++ walkAll cs start ps
+
+-- ---- where it still decides
+
+-- no interval is 0
+abbrev pub noZero : List Float → Bool
+noZero [] = true
+noZero (x ∷ xs) = not (isZero x) && noZero xs
+
+-- a walked segment begins with exactly nothing left
+unfoldable pub exactFrom : List Float → Vec2 → List Vec2 → Pos → Bool
+exactFrom cs a [] p = false
+exactFrom cs a (b ∷ ps) p =
+    let g = legOf a b in
+    (counts g && eq (p .left) f0) || exactFrom cs b ps (passed (counts g) cs g p .pos)
+
+abbrev pub exact : List Float → Pos → List Vec2 → Bool
+exact cs start [] = false
+exact cs start (a ∷ ps) = exactFrom cs a ps start
+
+-- in one of the polylines
+abbrev pub exactAny : List Float → Pos → List (List Vec2) → Bool
+exactAny cs start [] = false
+exactAny cs start (p ∷ ps) = exact cs start p || exactAny cs start ps
