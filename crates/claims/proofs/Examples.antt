@@ -20,9 +20,9 @@ use Rattle.builder.specs.declared.Call.the-variants.{MoveTo, ConicTo}
 use Rattle.builder.specs.Call.{lays}
 use Rattle.builder.specs.Laid.{lay, puts, laidFrom, laid}
 use Rattle.pattern.specs.Cycle.{cuts}
-use Rattle.walk.specs.Loop.{trace, traced}
-use Rattle.walk.specs.Zeros.{above}
-use Rattle.walk.specs.Walk.{cutFrom, walkFrom}
+use Rattle.events.specs.Loop.{trace, traced}
+use Rattle.events.specs.Zeros.{above}
+use Rattle.events.specs.Walk.{cutFrom, walkFrom}
 use Rattle.dash.specs.Runs.{walkOf}
 
 -- a point with whole coordinates

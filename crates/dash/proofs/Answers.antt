@@ -21,8 +21,8 @@ use Rattle.path.specs.Check.{badPath}
 use Rattle.flatten.specs.Flatten.{pointsOut, endsOut, heldCurves}
 use Rattle.flatten.specs.Subpaths.{marksOut}
 use Rattle.pattern.specs.Cycle.{some, usable, cycleOf, sumFrom, cuts}
-use Rattle.walk.specs.declared.Pos.{Pos}
-use Rattle.walk.specs.Phase.{startOf}
+use Rattle.events.specs.declared.Pos.{Pos}
+use Rattle.events.specs.Phase.{startOf}
 use Rattle.dash.specs.declared.Dashed.{Dashed}
 use Rattle.dash.specs.declared.Dashed.the-variants.{Whole, Cut, Refused}
 use Rattle.dash.specs.Answer.{Answer, refusedBy, drawnWhole, cutInto, answerOf}

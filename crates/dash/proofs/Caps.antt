@@ -16,8 +16,8 @@ use Rattle.path.specs.declared.FillRule.{FillRule}
 use Rattle.path.specs.Segment.{bytesOf, allPoints}
 use Rattle.path.specs.Check.{maxVerbs}
 use Rattle.vec2.specs.declared.Vec2.{Vec2}
-use Rattle.walk.specs.declared.Pos.{Pos}
-use Rattle.walk.specs.Walk.{walkAll}
+use Rattle.events.specs.declared.Pos.{Pos}
+use Rattle.events.specs.Walk.{walkAll}
 use Rattle.walk.proofs.Lays.{walk-points}
 use Rattle.walk.specs.Lay.{Out, out, laid, Room}
 use Rattle.walk.specs.Count.{UpTo, itself}

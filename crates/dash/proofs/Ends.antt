@@ -12,12 +12,12 @@ use Rattle.vec2.specs.Vec2.{vec}
 use Rattle.vec2.specs.Points.{pointsIn}
 use Rattle.path.specs.declared.Segment.{Segment}
 use Rattle.flatten.specs.Polylines.{polylines}
-use Rattle.walk.specs.declared.Pos.{Pos}
-use Rattle.walk.specs.Walk.{walkPolyline, walkAll}
-use Rattle.walk.specs.Drawn.{drawn}
+use Rattle.events.specs.declared.Pos.{Pos}
+use Rattle.events.specs.Walk.{walkPolyline, walkAll}
+use Rattle.events.specs.Drawn.{drawn}
 use Rattle.walk.specs.Lay.{Out, Room, laid}
 use Rattle.walk.proofs.Lays.{laid-append, room-front}
-use Rattle.walk.proofs.Lines.{drop-next}
+use Rattle.vec2.proofs.Lists.{drop-next}
 use Rattle.dash.specs.Ends.{Ordered}
 
 -- ---- points in a part of the floats

@@ -23,8 +23,8 @@ use Rattle.flatten.specs.Subpaths.{marksOut}
 use Rattle.flatten.specs.Polylines.{polylines}
 use Rattle.flatten.proofs.Polylines.{marks-ends}
 use Rattle.pattern.specs.Cycle.{cycleOf, period, cuts}
-use Rattle.walk.specs.Phase.{startOf}
-use Rattle.walk.proofs.Runs.{all-runs}
+use Rattle.events.specs.Phase.{startOf}
+use Rattle.events.proofs.Runs.{all-runs}
 use Rattle.dash.specs.declared.Outline.{Outline}
 use Rattle.dash.specs.Dash.{refusal, dashes, scratchFits, outFits, outlineFor, outIf, Outcome, keeping, keptIf, cutting, answered, dashing}
 use Rattle.dash.specs.Runs.{CutIntoRuns}

@@ -12,8 +12,8 @@ use Rattle.float.specs.Arith.{f0}
 use Rattle.vec2.specs.declared.Vec2.{Vec2}
 use Rattle.flatten.specs.Polylines.{polylines}
 use Rattle.pattern.specs.Cycle.{some, cycleOf, period}
-use Rattle.walk.specs.Source.{noZero, exactAny}
-use Rattle.walk.proofs.Source.{all-as-source}
+use Rattle.events.specs.Source.{noZero, exactAny}
+use Rattle.events.proofs.Source.{all-as-source}
 use Rattle.dash.specs.Dash.{dashes}
 use Rattle.dash.specs.Source.{sourceStart, sourceDashes, sourceDecides}
 

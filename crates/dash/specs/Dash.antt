@@ -17,9 +17,9 @@ use Rattle.flatten.specs.Flatten.{pointsOut, endsOut, heldCurves}
 use Rattle.flatten.specs.Subpaths.{marksOut}
 use Rattle.flatten.specs.Polylines.{polylines}
 use Rattle.pattern.specs.Cycle.{cycleOf, period, cuts}
-use Rattle.walk.specs.declared.Pos.{Pos}
-use Rattle.walk.specs.Phase.{startOf}
-use Rattle.walk.specs.Walk.{walkAll}
+use Rattle.events.specs.declared.Pos.{Pos}
+use Rattle.events.specs.Phase.{startOf}
+use Rattle.events.specs.Walk.{walkAll}
 use Rattle.dash.specs.declared.Outline.{Outline}
 use Rattle.dash.specs.Answer.{Answer, refusedBy, drawnWhole, cutInto}
 

@@ -16,10 +16,10 @@ use Rattle.flatten.specs.Flatten.{pointsOut, endsOut, heldCurves}
 use Rattle.flatten.specs.Subpaths.{marksOut}
 use Rattle.flatten.specs.Polylines.{polylines}
 use Rattle.pattern.specs.Cycle.{cycleOf, period}
-use Rattle.walk.specs.Phase.{startOf}
-use Rattle.walk.specs.Walk.{walkPolyline}
-use Rattle.walk.specs.Drawn.{drawn}
-use Rattle.walk.specs.Runs.{AllRuns}
+use Rattle.events.specs.Phase.{startOf}
+use Rattle.events.specs.Walk.{walkPolyline}
+use Rattle.events.specs.Drawn.{drawn}
+use Rattle.events.specs.Runs.{AllRuns}
 use Rattle.dash.specs.declared.Outline.{Outline}
 use Rattle.dash.specs.Dash.{Outcome}
 

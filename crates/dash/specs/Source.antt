@@ -8,8 +8,8 @@ use Rattle.vec2.specs.declared.Vec2.{Vec2}
 use Rattle.path.specs.declared.Segment.{Segment}
 use Rattle.flatten.specs.Polylines.{polylines}
 use Rattle.pattern.specs.Cycle.{some, cycleOf, period}
-use Rattle.walk.specs.declared.Pos.{Pos}
-use Rattle.walk.specs.Source.{startOf, walkAll, noZero, exactAny}
+use Rattle.events.specs.declared.Pos.{Pos}
+use Rattle.events.specs.Source.{startOf, walkAll, noZero, exactAny}
 
 abbrev pub sourceStart : List Float → Float → Pos
 sourceStart intervals phase = startOf (cycleOf intervals) phase (period intervals)

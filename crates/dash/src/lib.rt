@@ -6,7 +6,7 @@ ghost use Rattle.vec2.specs.Points.{pointsIn};
 ghost use Rattle.path.specs.Check.{badPath};
 ghost use Rattle.float.specs.Arith.{f0};
 ghost use Rattle.pattern.specs.Cycle.{cycleOf, sumFrom};
-ghost use Rattle.walk.specs.Phase.{startOf};
+ghost use Rattle.events.specs.Phase.{startOf};
 ghost use Rattle.walk.specs.Lay.{out, laid, Room};
 ghost use Rattle.walk.specs.Count.{UpTo, itself};
 ghost use Rattle.walk.specs.Lengths.{Kept};
@@ -14,8 +14,8 @@ ghost use Rattle.dash.specs.Ends.{Ordered};
 ghost use Rattle.dash.specs.Answer.{answerOf};
 ghost use Rattle.dash.specs.Dash.{refusal as refusalOf, walked, Cap, cutOutcome, scratchOutcome, outcome, cutting, dashing};
 ghost use Rattle.dash.specs.Outline.{part as partOf, outlineOf};
+use events::Pos;
 use path::FillRule;
-use walk::Pos;
 
 // What is cut: the verbs and points in the dash buffers, the points and polylines in the scratch, how many of the path's curves were held back, and the
 // path's fill rule.
@@ -219,7 +219,7 @@ fn cut_scratch(
     ensures { λ r. ⌜ cutOutcome (answerOf r) (now (verbs .exit)) (now (floats .exit))
         ≡ scratchOutcome (now (cycle .entry)) (startOf (now (cycle .entry)) phase (sumFrom f0 (now (cycle .entry)))) (now (points .entry)) (now (ends .entry)) held rule (now (verbs .entry)) (now (floats .entry)) ⌝ }
 {
-    if walk::gaps_only(cycle) {
+    if cycle::gaps_only(cycle) {
         let o = Outline {
             verbs: 0,
             points: 0,
@@ -231,7 +231,7 @@ fn cut_scratch(
         return Dashed::Cut(o);
     }
     let period = pattern::sum_of(cycle);
-    let start = walk::start_of(cycle, phase, period);
+    let start = cycle::start_of(cycle, phase, period);
     cut_all(points, ends, cycle, start, held, rule, verbs, floats)
 }
 

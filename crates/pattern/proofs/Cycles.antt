@@ -2,13 +2,13 @@
 use mathlib.Core.Path.{_≡_, refl, sym, _∙_, ap}
 use Prim.Native.Nat.{ℕ, suc, _+_, _%_, _≤_, _<_}
 use native.Mathlib.Omega.{arith}
-use native.Mathlib.Numerals.{add-one}
 use native.Mathlib.Nat.{zero-add}
 use mathlib.Core.List.{List, _∷_, _++_}
 use lib.ListN.{length, take, drop, getD, set, length-append}
-use lib.Seq.{sets, sets-eq, take-at, drop-cons, length-take-le, length-sets}
+use lib.Seq.{sets, sets-eq, take-at, length-take-le, length-sets}
 use lib.Ieee.{Float}
 use borrow.Author.Tests.{eq-eqb, ne-eqb}
+use Rattle.vec2.proofs.Lists.{drop-next}
 use Rattle.pattern.specs.Cycle.{cycleOf}
 
 -- the front of a buffer up to the end of what is stored in it
@@ -32,10 +32,6 @@ module _ (ps v : List Float) (room : length ps + length ps ≤ length v) where
         sym (length-append ps ps),
         take-stored (sets v 0 ps) (length ps) ps (omega (arith, length-sets v 0 ps)) ∙ ap (λ (x : List Float). x ++ ps) once,
       )
-
--- a loop that goes through a list by its index
-pub drop-next : {A : Type 0} (xs : List A) (i : ℕ) (d : A) → i < length xs → drop i xs ≡ getD xs i d ∷ drop (i + 1) xs
-drop-next xs i d h = drop-cons xs i d h ∙ ap (λ (k : ℕ). getD xs i d ∷ drop k xs) (sym (add-one i))
 
 -- one value more: what is left, stored over the present buffer
 module _ {A : Type 0} (l src : List A) (at i : ℕ) (d : A) where

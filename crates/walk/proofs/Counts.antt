@@ -11,16 +11,16 @@ use lib.Ieee.{Float, binary32, fits, nan}
 use lib.Ieee.Fits.{add-fits}
 use Rattle.float.specs.Arith.{plus, f0}
 use Rattle.vec2.specs.declared.Vec2.{Vec2}
-use Rattle.walk.specs.declared.Pos.{Pos}
-use Rattle.walk.specs.declared.Leg.{Leg}
-use Rattle.walk.specs.declared.Event.{Event}
-use Rattle.walk.specs.declared.Event.the-variants.{Nothing, Cut, Reach, Pass}
+use Rattle.events.specs.declared.Pos.{Pos}
+use Rattle.events.specs.declared.Leg.{Leg}
+use Rattle.events.specs.declared.Event.{Event}
+use Rattle.events.specs.declared.Event.the-variants.{Nothing, Cut, Reach, Pass}
 use Rattle.walk.specs.declared.Tip.{Tip}
 use Rattle.walk.specs.declared.Walked.{Walked}
-use Rattle.walk.specs.Walk.{inside, resting, rested, goes, onward, Place, place, Told, cutFrom, turned, beginningAt, cutLeg, passed, counts, legOf, walkFrom, walkPolyline}
-use Rattle.walk.specs.Drawn.{downTo, drawn}
+use Rattle.events.specs.Walk.{inside, resting, rested, goes, onward, Place, place, Told, cutFrom, turned, beginningAt, cutLeg, passed, counts, legOf, walkFrom, walkPolyline}
+use Rattle.events.specs.Drawn.{downTo, drawn}
 use Rattle.walk.specs.Count.{tallyStroke, tallyCut, tallyRest, tallyEvent, tally, tallyTurn, tallied, UpTo, laidBy}
-use Rattle.walk.proofs.Turns.{cut-stop, cut-step}
+use Rattle.events.proofs.Turns.{cut-stop, cut-step}
 use Rattle.walk.proofs.Lines.{next-point, walk-start, walk-none}
 use Rattle.vec2.specs.Points.{pointsIn}
 use Rattle.vec2.specs.Vec2.{vec}

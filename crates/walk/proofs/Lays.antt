@@ -14,11 +14,11 @@ use Rattle.vec2.specs.declared.Vec2.{Vec2}
 use Rattle.vec2.specs.Points.{flat}
 use Rattle.path.specs.declared.Segment.{Segment}
 use Rattle.path.specs.Segment.{bytesOf, allPoints}
-use Rattle.walk.specs.declared.Event.{Event}
-use Rattle.walk.specs.declared.Event.the-variants.{Nothing, Cut, Reach, Pass}
-use Rattle.walk.specs.Drawn.{downTo, drawn}
-use Rattle.walk.specs.declared.Pos.{Pos}
-use Rattle.walk.specs.Walk.{walkPolyline, walkAll}
+use Rattle.events.specs.declared.Event.{Event}
+use Rattle.events.specs.declared.Event.the-variants.{Nothing, Cut, Reach, Pass}
+use Rattle.events.specs.Drawn.{downTo, drawn}
+use Rattle.events.specs.declared.Pos.{Pos}
+use Rattle.events.specs.Walk.{walkPolyline, walkAll}
 use Rattle.walk.specs.Lay.{Out, Room, Sheet, laid, layVerb, stroke, layEvent, layAll}
 
 -- ---- one verb after the other

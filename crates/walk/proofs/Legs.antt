@@ -8,12 +8,12 @@ use lib.Dec.{T}
 use lib.Ieee.{Float, binary32, fits}
 use lib.Ieee.Fits.{add-fits}
 use Rattle.float.specs.Arith.{plus}
-use Rattle.walk.specs.declared.Pos.{Pos}
-use Rattle.walk.specs.declared.Leg.{Leg}
-use Rattle.walk.specs.declared.Event.{Event}
-use Rattle.walk.specs.Walk.{resting, rested, goes, onward, tells, Place, place, Told, cutFrom, turned}
+use Rattle.events.specs.declared.Pos.{Pos}
+use Rattle.events.specs.declared.Leg.{Leg}
+use Rattle.events.specs.declared.Event.{Event}
+use Rattle.events.specs.Walk.{resting, rested, goes, onward, tells, Place, place, Told, cutFrom, turned}
 use Rattle.walk.specs.Lay.{Room, Sheet, layEvent, layAll}
-use Rattle.walk.proofs.Turns.{cut-stop, cut-step}
+use Rattle.events.proofs.Turns.{cut-stop, cut-step}
 use Rattle.walk.proofs.Lays.{room-start}
 
 -- what is left to tell from s on, laid over o, ends as what there was to tell from s₀ on, laid over o₀; that has room

@@ -1,13 +1,6 @@
-pub mod Loops
-pub mod Turns
-pub mod Phases
 pub mod Lays
 pub mod Legs
 pub mod Counts
 pub mod Lines
-pub mod Runs
 pub mod Lengths
 pub mod Positive
-pub mod Source
-pub mod Gaps
-pub mod Changed

@@ -2,27 +2,26 @@
 use mathlib.Core.Path.{_≡_, refl, sym, _∙_, ap, subst}
 use Prim.Native.Nat.{ℕ, _+_, _≤_, _<_}
 use native.Mathlib.Omega.{arith}
-use native.Mathlib.Numerals.{add-one}
 use mathlib.Core.Bool.{Bool, true, false, true≢false}
 use mathlib.Core.List.{List, [], _∷_, _++_}
 use lib.ListN.{length, getD, drop, length-drop}
-use lib.Seq.{drop-cons}
 use lib.Ieee.{Float, nan, eq, binary32}
 use lib.Ieee.Bits.{ofBits-fits}
 use Rattle.vec2.specs.declared.Vec2.{Vec2}
 use Rattle.vec2.specs.Vec2.{vec}
 use Rattle.vec2.specs.Points.{pointsIn}
-use Rattle.walk.specs.declared.Pos.{Pos}
-use Rattle.walk.specs.declared.Event.{Event}
-use Rattle.walk.specs.declared.Event.the-variants.{Nothing}
-use Rattle.walk.specs.declared.Leg.{Leg}
+use Rattle.vec2.proofs.Lists.{drop-next}
+use Rattle.events.specs.declared.Pos.{Pos}
+use Rattle.events.specs.declared.Event.{Event}
+use Rattle.events.specs.declared.Event.the-variants.{Nothing}
+use Rattle.events.specs.declared.Leg.{Leg}
 use Rattle.walk.specs.declared.Walked.{Walked}
 use Rattle.float.specs.Arith.{f0, plus}
-use Rattle.walk.specs.Walk.{turned, inside, resting, Told, Place, place, goes, onward, cutFrom, beginningAt, cutLeg, passed, counts, legOf, walkFrom, walkPolyline}
+use Rattle.events.specs.Walk.{turned, inside, resting, Told, Place, place, goes, onward, cutFrom, beginningAt, cutLeg, passed, counts, legOf, walkFrom, walkPolyline}
 use Rattle.walk.proofs.Lays.{room-start}
 use Rattle.walk.specs.Lay.{Room, Sheet, laid, layEvent, layAll, layTurn}
 use Rattle.walk.specs.Count.{tallyTurn}
-use Rattle.walk.proofs.Turns.{cut-stop, cut-step}
+use Rattle.events.proofs.Turns.{cut-stop, cut-step}
 
 pub lay-append : (s : Sheet) (es fs : List Event) → layAll s (es ++ fs) ≡ layAll (layAll s es) fs
 lay-append s [] fs = refl
@@ -98,10 +97,6 @@ pub room-in : {n m n' m' : ℕ} {s s' : Sheet} → n' ≡ n → m' ≡ m → s' 
 room-in a b e r = rw (a, b, e) r
 
 -- ---- a loop over the legs
-
--- a loop that goes through a list by its index
-pub drop-next : {A : Type 0} (xs : List A) (i : ℕ) (d : A) → i < length xs → drop i xs ≡ getD xs i d ∷ drop (i + 1) xs
-drop-next xs i d h = drop-cons xs i d h ∙ ap (λ (k : ℕ). getD xs i d ∷ drop k xs) (sym (add-one i))
 
 -- one point more
 pub next-point : (fs : List Float) (i : ℕ) → i + 1 < length fs → pointsIn (drop i fs) ≡ vec (getD fs i nan) (getD fs (i + 1) nan) ∷ pointsIn (drop (i + 2) fs)

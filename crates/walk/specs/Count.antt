@@ -4,11 +4,11 @@ use mathlib.Core.Path.{_≡_}
 use mathlib.Core.Bool.{Bool, true, false, cond}
 use mathlib.Core.List.{List, [], _∷_}
 use lib.Ieee.{Float}
-use Rattle.walk.specs.declared.Event.{Event}
-use Rattle.walk.specs.declared.Event.the-variants.{Nothing, Cut, Reach, Pass}
+use Rattle.events.specs.declared.Event.{Event}
+use Rattle.events.specs.declared.Event.the-variants.{Nothing, Cut, Reach, Pass}
 use Rattle.walk.specs.declared.Tip.{Tip}
 use Rattle.walk.specs.declared.Walked.{Walked}
-use Rattle.walk.specs.Walk.{Told, turned}
+use Rattle.events.specs.Walk.{Told, turned}
 
 -- a line more, behind a move where the pen is up
 abbrev pub tallyStroke : Tip → Bool → Tip

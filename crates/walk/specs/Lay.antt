@@ -9,8 +9,8 @@ use Rattle.vec2.specs.declared.Vec2.{Vec2}
 use Rattle.vec2.specs.Points.{flat}
 use Rattle.path.specs.declared.Segment.{Segment}
 use Rattle.path.specs.Segment.{bytesOf, allPoints}
-use Rattle.walk.specs.declared.Event.{Event}
-use Rattle.walk.specs.declared.Event.the-variants.{Nothing, Cut, Reach, Pass}
+use Rattle.events.specs.declared.Event.{Event}
+use Rattle.events.specs.declared.Event.the-variants.{Nothing, Cut, Reach, Pass}
 use Rattle.walk.specs.declared.Tip.{Tip}
 
 -- the verbs, the floats, and how many verbs and points are laid

@@ -1,10 +1,3 @@
-pub mod Loop
-pub mod Zeros
-pub mod Walk
-pub mod Phase
-pub mod Drawn
 pub mod Lay
 pub mod Count
-pub mod Runs
 pub mod Lengths
-pub mod Source

@@ -2,45 +2,21 @@
 ghost use mathlib.Core.Path.{_≡_};
 ghost use mathlib.Core.Bool.{true, false, not, _&&_};
 ghost use Prim.Native.Nat.{_+_, _*_, _^_, _≤_, _<_};
-ghost use lib.ListN.{length, drop};
+ghost use lib.ListN.{length};
 ghost use lib.Ieee.{le, eq};
 ghost use Rattle.float.specs.Arith.{f0};
 ghost use Rattle.float.specs.Small.{isFinite};
 ghost use Rattle.vec2.specs.Vec2.{_⊖_, len};
 ghost use Rattle.vec2.specs.Points.{pointsIn};
-ghost use Rattle.walk.specs.Zeros.{after, firstAbove, next, oneAbove, gapsOnly};
-ghost use Rattle.walk.specs.Walk.{turned, pointOn, inside as insideOf, resting as restingOf, rested, place, cutFrom, passed, counts, legOf, walkPolyline};
+ghost use Rattle.events.specs.Walk.{turned, pointOn, inside as insideOf, resting as restingOf, rested, place, cutFrom, passed, counts, legOf, walkPolyline};
 ghost use Rattle.walk.specs.Lengths.{Kept, KeptAt};
-ghost use Rattle.walk.specs.Phase.{startOf};
-ghost use Rattle.walk.specs.Drawn.{drawn};
+ghost use Rattle.events.specs.Drawn.{drawn};
 ghost use Rattle.walk.specs.Lay.{sheet, out, layVerb, stroke, layEvent, layAll, layTurn, laid, Room};
 ghost use Rattle.walk.specs.Count.{tallyStroke, tallyCut, tallyRest, tallyTurn, tallied, UpTo, laidBy, itself};
+use events::Event;
+use events::Leg;
+use events::Pos;
 use vec2::Vec2;
-
-// Where the walk is in the cycle. `left` is what is left of the interval at `index`.
-pub struct Pos {
-    pub index: usize,
-    pub left: f32,
-    pub drawing: bool,
-}
-
-// A segment of a polyline: its start, the way to its end, its end and its length.
-pub struct Leg {
-    pub from: Vec2,
-    pub way: Vec2,
-    pub to: Vec2,
-    pub length: f32,
-}
-
-// What a turn of the walk tells. Cut: a dash ends inside a leg, at the second point. Reach: a corner, the second point, is reached while drawing.
-// Both give the point where the dash began, if the pen was up. Pass: a corner is reached in a gap. Nothing: a gap ends inside a leg, or an interval ended
-// where the leg begins; the pen is up.
-pub enum Event {
-    Nothing,
-    Cut(Vec2, Vec2),
-    Reach(Vec2, Vec2),
-    Pass(Vec2),
-}
 
 // How many verbs are laid, and whether the pen is down.
 pub struct Tip {
@@ -53,117 +29,7 @@ pub struct Walked {
     pub tip: Tip,
 }
 
-// ---- the cycle
-
-// The next interval's number.
-fn index_after(cycle: &[f32], index: usize) -> usize
-    requires { ⌜ index < length (now cycle) ⌝ }
-    ensures { λ r. ⌜ (r ≡ after (now (cycle .entry)) index) × (r < length (now (cycle .entry))) ⌝ }
-{
-    if index + 1 < cycle.len() {
-        return index + 1;
-    }
-    0
-}
-
-// The first interval from `index` on that is not 0; once round where all are.
-fn first_above(cycle: &[f32], index: usize) -> usize
-    requires { ⌜ index < length (now cycle) ⌝ }
-    ensures { λ r. ⌜ (r ≡ firstAbove (now (cycle .entry)) index) × (r < length (now (cycle .entry))) ⌝ }
-{
-    let mut i = index;
-    let mut k = 0usize;
-    while k < cycle.len() {
-        let c = cycle[i];
-        if c <= 0.0 {
-            i = index_after(cycle, i);
-            k += 1;
-        } else {
-            return i;
-        }
-    }
-    i
-}
-
-// The next one that is not 0. Mostly it is the next: then no loop is entered.
-fn next_above(cycle: &[f32], index: usize) -> usize
-    requires { ⌜ index < length (now cycle) ⌝ }
-    ensures { λ r. ⌜ (r ≡ next (now (cycle .entry)) index) × (r < length (now (cycle .entry))) ⌝ }
-{
-    let i = index_after(cycle, index);
-    let c = cycle[i];
-    if c <= 0.0 {
-        return first_above(cycle, i);
-    }
-    i
-}
-
-// Whether the interval at `from`, or each second one after it, has one above 0.
-fn one_above(cycle: &[f32], from: usize) -> bool
-    ensures { λ r. ⌜ r ≡ oneAbove (drop from (now (cycle .entry))) ⌝ }
-{
-    let mut i = from;
-    while i < cycle.len() {
-        let c = cycle[i];
-        if c <= 0.0 {
-            i += 2;
-        } else {
-            return true;
-        }
-    }
-    false
-}
-
-// No drawn interval is above 0, and some gap is: whatever is walked, nothing is drawn.
-pub fn gaps_only(cycle: &[f32]) -> bool
-    ensures { λ r. ⌜ r ≡ gapsOnly (now (cycle .entry)) ⌝ }
-{
-    if one_above(cycle, 0) {
-        return false;
-    }
-    one_above(cycle, 1)
-}
-
-// ---- the phase
-
-// Where in the cycle a walk begins. What remains of the phase falls at each turn, or the loop is left.
-pub fn start_of(cycle: &[f32], phase: f32, period: f32) -> Pos
-    requires { ⌜ 0 < length (now cycle) ⌝ }
-    ensures started { λ r. ⌜ r ≡ startOf (now (cycle .entry)) phase period ⌝ }
-    ensures indexed { λ r. ⌜ r .index < length (now (cycle .entry)) ⌝ }
-{
-    let mut remaining = float::rem_euclid(phase, period);
-    let mut index = first_above(cycle, 0);
-    while remaining >= cycle[index] {
-        let next = remaining - cycle[index];
-        if next >= remaining {
-            break;
-        }
-        remaining = next;
-        index = next_above(cycle, index);
-    }
-    let left = float::max(cycle[index] - remaining, 0.0);
-    Pos {
-        index,
-        left,
-        drawing: index % 2 == 0,
-    }
-}
-
 // ---- one turn
-
-// The next interval that is not 0. Those of even number are drawn.
-fn next_interval(cycle: &[f32], p: Pos) -> Pos
-    requires { ⌜ p .index < length (now cycle) ⌝ }
-    ensures { λ r. ⌜ (r ≡ turned (now (cycle .entry)) p) × (r .index < length (now (cycle .entry))) ⌝ }
-{
-    let i = next_above(cycle, p.index);
-    Pos {
-        index: i,
-        left: cycle[i],
-        drawing: i % 2 == 0,
-    }
-}
 
 // The point at the distance t from the leg's start.
 fn point_on(g: Leg, t: f32) -> Vec2
@@ -316,7 +182,7 @@ fn count_leg(cycle: &[f32], g: Leg, w: Walked, cap: usize) -> Walked
         if cap < k.at {
             return Walked { pos: p, tip: k };
         }
-        p = next_interval(cycle, p);
+        p = cycle::next_interval(cycle, p);
         t = next;
     }
     let tip = count_rest(k, p.drawing);
@@ -330,16 +196,25 @@ fn turn_count(cycle: &[f32], w: Walked) -> Walked
     ensures { λ r. ⌜ (r ≡ tallyTurn (eq (w .pos .left) f0) (now (cycle .entry)) w) × (r .pos .index < length (now (cycle .entry))) ⌝ }
 {
     let p = w.pos;
+    let k = w.tip;
     if p.left == 0.0 {
-        let pos = next_interval(cycle, p);
-        let k = w.tip;
+        let pos = cycle::next_interval(cycle, p);
         let tip = Tip {
             at: k.at,
             down: false,
         };
         return Walked { pos, tip };
     }
-    w
+    let pos = Pos {
+        index: p.index,
+        left: p.left,
+        drawing: p.drawing,
+    };
+    let tip = Tip {
+        at: k.at,
+        down: k.down,
+    };
+    Walked { pos, tip }
 }
 
 // Counts a leg, or passes over one that is not walked.
@@ -465,7 +340,7 @@ fn lay_leg(cycle: &[f32], g: Leg, w: Walked, verbs: &mut [u8], floats: &mut [f32
         }
         let e = inside(g, p, end);
         k = put(verbs, floats, k, e);
-        p = next_interval(cycle, p);
+        p = cycle::next_interval(cycle, p);
         t = end;
     }
     let e = resting(g, p, t);
@@ -499,13 +374,22 @@ fn turn_leg(cycle: &[f32], a: Vec2, w: Walked, verbs: &mut [u8], floats: &mut [f
     ensures indexed { λ r. ⌜ r .pos .index < length (now (cycle .entry)) ⌝ }
 {
     let p = w.pos;
+    let k = w.tip;
     if p.left == 0.0 {
-        let pos = next_interval(cycle, p);
-        let k = w.tip;
+        let pos = cycle::next_interval(cycle, p);
         let tip = begin(verbs, floats, k, pos.drawing, a);
         return Walked { pos, tip };
     }
-    w
+    let pos = Pos {
+        index: p.index,
+        left: p.left,
+        drawing: p.drawing,
+    };
+    let tip = Tip {
+        at: k.at,
+        down: k.down,
+    };
+    Walked { pos, tip }
 }
 
 // Walks a leg, or passes over one that is not walked: the pen stays as it is.

@@ -8,9 +8,9 @@ use Rattle.float.specs.Arith.{f0}
 use Rattle.vec2.specs.Points.{pointsIn}
 use Rattle.flatten.specs.Polylines.{polylines}
 use Rattle.pattern.specs.Cycle.{sumFrom}
-use Rattle.walk.specs.declared.Pos.{Pos}
-use Rattle.walk.specs.Phase.{startOf}
-use Rattle.walk.proofs.Gaps.{nothing-drawn}
+use Rattle.events.specs.declared.Pos.{Pos}
+use Rattle.events.specs.Phase.{startOf}
+use Rattle.events.proofs.Gaps.{nothing-drawn}
 use Rattle.dash.specs.Dash.{walked, scratchOutcome}
 use Rattle.dash.proofs.Answers.{cut-none}
 use borrow.Author.Needs.{needs}

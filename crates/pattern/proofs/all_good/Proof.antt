@@ -9,7 +9,7 @@ use lib.ListN.{length, drop, getD, drop-of-length-le}
 use lib.Ieee.{Float, nan}
 use denote.Ref.{now}
 use Rattle.pattern.specs.Cycle.{allGood, goodInterval}
-use Rattle.pattern.proofs.Cycles.{drop-next}
+use Rattle.vec2.proofs.Lists.{drop-next}
 use Rattle.pattern.proofs.all_good.Statement.{statement}
 use Rattle.pattern.proofs.all_good.Tie as tie
 

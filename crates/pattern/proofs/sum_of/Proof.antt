@@ -7,7 +7,7 @@ use lib.ListN.{length, drop, drop-of-length-le}
 use lib.Ieee.{nan}
 use denote.Ref.{now}
 use Rattle.pattern.specs.Cycle.{sumFrom}
-use Rattle.pattern.proofs.Cycles.{drop-next}
+use Rattle.vec2.proofs.Lists.{drop-next}
 use Rattle.pattern.proofs.sum_of.Statement.{statement}
 use Rattle.pattern.proofs.sum_of.Tie as tie
 

@@ -2,7 +2,7 @@
 use mathlib.Core.Path.{_≡_, refl, sym, subst}
 use Prim.Native.Nat.{_<_}
 use lib.ListN.{length}
-use Rattle.walk.specs.declared.Pos.{Pos}
+use Rattle.events.specs.declared.Pos.{Pos}
 use mathlib.Core.Bool.{true, false}
 use mathlib.Core.Logic.{⊎-elim, inl, inr}
 use native.Mathlib.Omega.{arith}
@@ -10,9 +10,9 @@ use denote.Ref.{now}
 use lib.Ieee.{binary32}
 use lib.Ieee.Bits.{ofBits-fits}
 use Rattle.float.specs.Rank.{rise}
-use Rattle.walk.specs.Walk.{goes, place}
+use Rattle.events.specs.Walk.{goes, place}
 use Rattle.walk.specs.Count.{laidBy}
-use Rattle.walk.proofs.Turns.{grows, goes-yes, goes-no}
+use Rattle.events.proofs.Turns.{grows, goes-yes, goes-no}
 use Rattle.walk.proofs.Counts.{Counting, count-over, count-on, counted, through}
 use Rattle.walk.proofs.count_leg.Statement.{statement}
 use Rattle.walk.proofs.count_leg.Tie as tie

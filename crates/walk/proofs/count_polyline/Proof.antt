@@ -8,7 +8,7 @@ use denote.Ref.{now}
 use lib.ListN.{length, drop}
 use Rattle.vec2.specs.Points.{pointsIn, pointAt}
 use Rattle.walk.specs.declared.Tip.{Tip}
-use Rattle.walk.specs.Walk.{walkFrom}
+use Rattle.events.specs.Walk.{walkFrom}
 use Rattle.walk.specs.Count.{tally, itself}
 use Rattle.walk.proofs.Lines.{walk-end}
 use Rattle.walk.proofs.Counts.{through, line-on, line-over, line-counted, line-none}

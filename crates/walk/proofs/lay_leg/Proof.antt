@@ -7,9 +7,9 @@ use lib.ListN.{length}
 use lib.Ieee.{binary32}
 use lib.Ieee.Bits.{ofBits-fits}
 use Rattle.float.specs.Rank.{rise}
-use Rattle.walk.specs.Walk.{goes, place}
+use Rattle.events.specs.Walk.{goes, place}
 use Rattle.walk.specs.Lay.{sheet, layEvent}
-use Rattle.walk.proofs.Turns.{grows, goes-yes, goes-no}
+use Rattle.events.proofs.Turns.{grows, goes-yes, goes-no}
 use Rattle.walk.proofs.Legs.{Going, cut-room, going-on, rest-room, gone, room-for}
 use Rattle.walk.proofs.lay_leg.Statement.{statement}
 use Rattle.walk.proofs.lay_leg.Tie as tie

@@ -8,9 +8,9 @@ use borrow.Author.Needs.{needs}
 use lib.ListN.{length, drop}
 use denote.Ref.{now}
 use Rattle.vec2.specs.Points.{pointsIn, pointAt}
-use Rattle.walk.specs.declared.Event.{Event}
-use Rattle.walk.specs.Walk.{walkFrom, walkPolyline}
-use Rattle.walk.specs.Drawn.{drawn}
+use Rattle.events.specs.declared.Event.{Event}
+use Rattle.events.specs.Walk.{walkFrom, walkPolyline}
+use Rattle.events.specs.Drawn.{drawn}
 use Rattle.walk.specs.Lay.{Room, out, Sheet, sheet, laid, layAll}
 use Rattle.walk.proofs.Lines.{walk-on, walk-end, walk-start, walk-none, room-leg}
 use Rattle.walk.proofs.Lays.{laid-none, lay-drawn}

@@ -3,7 +3,7 @@ use mathlib.Core.Path.{_≡_}
 use lib.Ieee.{Float}
 use Rattle.vec2.specs.declared.Vec2.{Vec2}
 use Rattle.vec2.specs.Vec2.{_⊖_, len}
-use Rattle.walk.specs.Walk.{legOf}
+use Rattle.events.specs.Walk.{legOf}
 use borrow.Author.Needs.{needs}
 use Rattle.walk.proofs.leg_of.Statement.{statement}
 use Rattle.walk.proofs.leg_of.Tie as tie

@@ -5,7 +5,7 @@ use denote.Ref.{now}
 use lib.Ieee.{eq}
 use Rattle.float.specs.Arith.{f0}
 use Rattle.walk.specs.declared.Walked.{Walked}
-use Rattle.walk.specs.Walk.{Told, counts}
+use Rattle.events.specs.Walk.{Told, counts}
 use Rattle.walk.specs.Count.{tallied, UpTo, laidBy}
 use Rattle.walk.proofs.Counts.{through, turned-counts, turned-at}
 use Rattle.walk.proofs.Lines.{did, did-not}

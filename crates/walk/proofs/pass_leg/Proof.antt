@@ -4,7 +4,7 @@ use denote.Ref.{now}
 use lib.ListN.{length}
 use lib.Ieee.{eq}
 use Rattle.float.specs.Arith.{f0}
-use Rattle.walk.specs.Walk.{Told, counts}
+use Rattle.events.specs.Walk.{Told, counts}
 use Rattle.walk.specs.Lay.{Room, sheet, layAll}
 use Rattle.walk.proofs.Lines.{did, did-not, room-in, turn-room, turned-goes, turned-lays}
 use borrow.Author.Needs.{needs}

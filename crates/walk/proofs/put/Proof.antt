@@ -4,8 +4,8 @@ use mathlib.Core.Bool.{true, false}
 use denote.Ref.{now}
 use lib.ListN.{length}
 use Rattle.vec2.specs.declared.Vec2.{Vec2}
-use Rattle.walk.specs.declared.Event.{Event}
-use Rattle.walk.specs.declared.Event.the-variants.{Cut, Reach}
+use Rattle.events.specs.declared.Event.{Event}
+use Rattle.events.specs.declared.Event.the-variants.{Cut, Reach}
 use Rattle.walk.specs.Lay.{Out, Room, Sheet, sheet, stroke, layEvent}
 use borrow.Author.Needs.{needs}
 use Rattle.walk.proofs.put.Statement.{statement}

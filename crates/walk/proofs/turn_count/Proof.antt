@@ -2,7 +2,7 @@
 use mathlib.Core.Path.{_≡_, sym, _∙_, ap}
 use mathlib.Core.Bool.{Bool, false}
 use denote.Ref.{now}
-use Rattle.walk.specs.declared.Pos.{Pos}
+use Rattle.events.specs.declared.Pos.{Pos}
 use Rattle.walk.specs.declared.Walked.{Walked}
 use Rattle.walk.specs.Count.{tallyCut, tallyTurn}
 use borrow.Author.Needs.{needs}
@@ -15,13 +15,13 @@ next-interval-requires c κs = search needs
 returns : tie.Need-returns
 returns c =
     let a = c .before .before .before .before .before .before .args in
-    let e = c .before .next-interval .ensures in
-    (ap (λ (p : Pos). record { pos = p; tip = record { at = a .w .tip .at; down = false } }) (e .0) ∙ sym (ap (λ (b : Bool). tallyTurn b (now (a .cycle)) (a .w)) (c .before .before .if1 .taken)), e .1)
+    let e = c .next-interval .ensures in
+    (ap (λ (p : Pos). record { pos = p; tip = record { at = a .w .tip .at; down = false } }) (e .0) ∙ sym (ap (λ (b : Bool). tallyTurn b (now (a .cycle)) (a .w)) (c .before .if1 .taken)), e .1)
 
 returns-2 : tie.Need-returns-2
 returns-2 c =
-    let a = c .before .before .before .before .args in
-    (sym (ap (λ (b : Bool). tallyTurn b (now (a .cycle)) (a .w)) (c .if1 .left)), c .before .before .before .before .pre)
+    let a = c .before .before .before .before .before .args in
+    (sym (ap (λ (b : Bool). tallyTurn b (now (a .cycle)) (a .w)) (c .if1 .left)), c .before .before .before .before .before .pre)
 
 pub turn-count-spec : {M : Type 1} → statement M
 turn-count-spec = tie.close (tie.spec next-interval-requires returns returns-2)

@@ -3,9 +3,9 @@ use mathlib.Core.Path.{_≡_, sym, _∙_, ap, subst}
 use mathlib.Core.Bool.{Bool, true}
 use denote.Ref.{now}
 use lib.ListN.{length}
-use Rattle.walk.specs.declared.Pos.{Pos}
+use Rattle.events.specs.declared.Pos.{Pos}
 use Rattle.walk.specs.declared.Walked.{Walked}
-use Rattle.walk.specs.Walk.{turned}
+use Rattle.events.specs.Walk.{turned}
 use Rattle.walk.specs.Count.{tallyTurn}
 use Rattle.walk.specs.Lay.{Room, Sheet, sheet, layTurn}
 use borrow.Author.Needs.{needs}
@@ -19,8 +19,8 @@ begin-requires : tie.Need-begin-requires
 begin-requires c κs =
     let a = c .before .before .before .before .before .before .before .before .before .before .args in
     let s = sheet (now (a .verbs)) (now (a .floats)) (a .w .tip) in
-    let e = c .before .before .before .next-interval .ensures .0 in
-    let h = c .before .before .before .before .if1 .taken in
+    let e = c .before .before .next-interval .ensures .0 in
+    let h = c .before .before .before .if1 .taken in
     subst (λ (p : Pos). Room (length (now (a .verbs))) (length (now (a .floats))) (layTurn true (p .drawing) s (a .a) .page)) (sym e)
     (subst (λ (b : Bool). Room (length (now (a .verbs))) (length (now (a .floats))) (layTurn b (turned (now (a .cycle)) (a .w .pos) .drawing) s (a .a) .page)) h
     (c .before .before .before .before .before .before .before .before .before .before .pre .1))
@@ -35,8 +35,8 @@ returns : tie.Need-returns
 returns c =
     let a = c .before .before .before .before .before .before .before .before .before .before .before .before .before .before .before .args in
     let s = sheet (now (a .verbs)) (now (a .floats)) (a .w .tip) in
-    let e = c .before .before .before .before .before .before .before .before .next-interval .ensures in
-    let h = c .before .before .before .before .before .before .before .before .before .if1 .taken in
+    let e = c .before .before .before .before .before .before .before .next-interval .ensures in
+    let h = c .before .before .before .before .before .before .before .before .if1 .taken in
     let o = c .before .before .before .before .begin .ensures in (
       e .0 ∙ sym (ap (λ (b : Bool). tallyTurn b (now (a .cycle)) (a .w) .pos) h),
       (
@@ -47,10 +47,10 @@ returns c =
 
 returns-2 : tie.Need-returns-2
 returns-2 c =
-    let a = c .before .before .before .before .before .before .args in
+    let a = c .before .before .before .before .before .before .before .args in
     let s = sheet (now (a .verbs)) (now (a .floats)) (a .w .tip) in (
       sym (ap (λ (b : Bool). tallyTurn b (now (a .cycle)) (a .w) .pos) (c .if1 .left)),
-      (sym (ap (λ (b : Bool). layTurn b (turned (now (a .cycle)) (a .w .pos) .drawing) s (a .a)) (c .if1 .left)), c .before .before .before .before .before .before .pre .0),
+      (sym (ap (λ (b : Bool). layTurn b (turned (now (a .cycle)) (a .w .pos) .drawing) s (a .a)) (c .if1 .left)), c .before .before .before .before .before .before .before .pre .0),
     )
 
 pub turn-leg-spec : {M : Type 1} → statement M

@@ -4,7 +4,7 @@ use Prim.Native.Nat.{ℕ, zero, suc, _^_, _<_}
 use native.Mathlib.Omega.{arith}
 use mathlib.Core.Bool.{Bool, true, false}
 use mathlib.Core.List.{[]}
-use Rattle.walk.specs.Loop.{Trace, then, trace, traced}
+use Rattle.events.specs.Loop.{Trace, then, trace, traced}
 
 module _ {S E : Type 0} (go : S → Bool) (next : S → S) (tell : S → E) where
   stop-at : (N : ℕ) (s : S) → trace go next tell N false s ≡ record { told = []; end = s }

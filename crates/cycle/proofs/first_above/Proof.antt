@@ -4,10 +4,10 @@ use Prim.Native.Nat.{ℕ, _+_, _-_, _≤_, _<_}
 use native.Mathlib.Omega.{arith}
 use denote.Ref.{now}
 use lib.ListN.{length}
-use Rattle.walk.specs.Zeros.{zeroAt, above, firstAbove}
-use Rattle.walk.proofs.Turns.{above-on, above-found, above-all, above-start}
-use Rattle.walk.proofs.first_above.Statement.{statement}
-use Rattle.walk.proofs.first_above.Tie as tie
+use Rattle.events.specs.Zeros.{zeroAt, above, firstAbove}
+use Rattle.events.proofs.Turns.{above-on, above-found, above-all, above-start}
+use Rattle.cycle.proofs.first_above.Statement.{statement}
+use Rattle.cycle.proofs.first_above.Tie as tie
 
 abbrev Inv-loop : tie.InvT-loop
 Inv-loop cycle index i₀ k₀ i k = (above cycle (length cycle - k) (zeroAt cycle i) i ≡ firstAbove cycle index) × (i < length cycle) × (k ≤ length cycle)

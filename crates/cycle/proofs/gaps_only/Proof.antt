@@ -3,9 +3,9 @@ use mathlib.Core.Path.{sym, _∙_, ap}
 use mathlib.Core.Bool.{Bool, not, _&&_}
 use denote.Ref.{now}
 use lib.ListN.{drop}
-use Rattle.walk.specs.Zeros.{oneAbove}
-use Rattle.walk.proofs.gaps_only.Statement.{statement}
-use Rattle.walk.proofs.gaps_only.Tie as tie
+use Rattle.events.specs.Zeros.{oneAbove}
+use Rattle.cycle.proofs.gaps_only.Statement.{statement}
+use Rattle.cycle.proofs.gaps_only.Tie as tie
 
 one-above-requires : tie.Need-one-above-requires
 one-above-requires c κs = tt

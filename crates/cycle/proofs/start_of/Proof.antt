@@ -9,15 +9,15 @@ use lib.ListN.{length, getD}
 use denote.Ref.{now}
 use lib.Ieee.{Float, nan, binary32, fits}
 use lib.Ieee.Fits.{sub-fits}
-use Rattle.walk.specs.Phase.{Phase, phaseGoes, phaseFrom, started}
-use Rattle.walk.specs.Zeros.{firstAbove}
+use Rattle.events.specs.Phase.{Phase, phaseGoes, phaseFrom, started}
+use Rattle.events.specs.Zeros.{firstAbove}
 use Rattle.float.specs.Small.{remEuclid}
 use Rattle.float.specs.Arith.{minus}
 use Rattle.float.specs.Rank.{fall}
-use Rattle.walk.proofs.Turns.{goes-yes, goes-no}
-use Rattle.walk.proofs.Phases.{phase-falls, phase-stop, phase-step}
-use Rattle.walk.proofs.start_of.Statement.{statement}
-use Rattle.walk.proofs.start_of.Tie as tie
+use Rattle.events.proofs.Turns.{goes-yes, goes-no}
+use Rattle.events.proofs.Phases.{phase-falls, phase-stop, phase-step}
+use Rattle.cycle.proofs.start_of.Statement.{statement}
+use Rattle.cycle.proofs.start_of.Tie as tie
 
 abbrev at : ℕ → Float → Phase
 at i r = record { index = i; remaining = r }

@@ -13,19 +13,19 @@ use borrow.Author.Tests.{eqb-true, leb-true, leb-false, not-true, not-false}
 use Rattle.float.specs.Arith.{plus, f0}
 use Rattle.float.specs.Small.{remEuclid}
 use Rattle.vec2.specs.declared.Vec2.{Vec2}
-use Rattle.walk.specs.declared.Pos.{Pos}
-use Rattle.walk.specs.declared.Leg.{Leg}
-use Rattle.walk.specs.declared.Event.{Event}
-use Rattle.walk.specs.declared.Event.the-variants.{Nothing, Cut, Reach, Pass}
-use Rattle.walk.specs.Loop.{Trace, traced}
-use Rattle.walk.specs.Zeros.{after, zeroAt, above, firstAbove, next, oneAbove, gapsOnly}
-use Rattle.walk.specs.Phase.{phaseGoes, phaseNext, startOf}
-use Rattle.walk.specs.Walk.{Place, place, inside, resting, turned, goes, onward, tells, cutFrom, beginningAt, cutLeg, passed, legOf, counts, walkFrom, walkPolyline, walkAll}
-use Rattle.walk.specs.Drawn.{drawn}
-use Rattle.walk.proofs.Loops.{traced-ind}
-use Rattle.walk.proofs.Turns.{next-index, first-index, above-in, both-left}
-use Rattle.walk.proofs.Lines.{drop-next}
-use Rattle.walk.proofs.Source.{or-first, or-rest}
+use Rattle.events.specs.declared.Pos.{Pos}
+use Rattle.events.specs.declared.Leg.{Leg}
+use Rattle.events.specs.declared.Event.{Event}
+use Rattle.events.specs.declared.Event.the-variants.{Nothing, Cut, Reach, Pass}
+use Rattle.events.specs.Loop.{Trace, traced}
+use Rattle.events.specs.Zeros.{after, zeroAt, above, firstAbove, next, oneAbove, gapsOnly}
+use Rattle.events.specs.Phase.{phaseGoes, phaseNext, startOf}
+use Rattle.events.specs.Walk.{Place, place, inside, resting, turned, goes, onward, tells, cutFrom, beginningAt, cutLeg, passed, legOf, counts, walkFrom, walkPolyline, walkAll}
+use Rattle.events.specs.Drawn.{drawn}
+use Rattle.events.proofs.Loops.{traced-ind}
+use Rattle.events.proofs.Turns.{next-index, first-index, above-in, both-left}
+use Rattle.vec2.proofs.Lists.{drop-next}
+use Rattle.events.proofs.Source.{or-first, or-rest}
 
 -- ---- which are above 0
 

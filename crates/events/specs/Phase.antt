@@ -6,10 +6,10 @@ use lib.ListN.{getD}
 use lib.Dec.{eqb}
 use lib.Ieee.{Float, nan, le}
 use Rattle.float.specs.Small.{maximum, remEuclid}
-use Rattle.walk.specs.Loop.{traced}
-use Rattle.walk.specs.Zeros.{firstAbove, next}
+use Rattle.events.specs.Loop.{traced}
+use Rattle.events.specs.Zeros.{firstAbove, next}
 use Rattle.float.specs.Arith.{minus, f0}
-use Rattle.walk.specs.declared.Pos.{Pos}
+use Rattle.events.specs.declared.Pos.{Pos}
 
 -- an interval's number and what remains of the phase there
 pub record Phase : Type 0 where

@@ -9,11 +9,11 @@ use lib.Ieee.{Float, nan, binary32, le, fits}
 use lib.Ieee.Fits.{sub-fits}
 use Rattle.float.specs.Rank.{fall}
 use Rattle.float.proofs.Rank.{falls, le-second, fall-small}
-use Rattle.walk.specs.Loop.{Trace}
+use Rattle.events.specs.Loop.{Trace}
 use Rattle.float.specs.Arith.{minus}
-use Rattle.walk.specs.Phase.{Phase, phaseGoes, phaseNext, phaseFrom}
-use Rattle.walk.proofs.Turns.{both-left, both-right}
-use Rattle.walk.proofs.Loops.{traced-stop, traced-step}
+use Rattle.events.specs.Phase.{Phase, phaseGoes, phaseNext, phaseFrom}
+use Rattle.events.proofs.Turns.{both-left, both-right}
+use Rattle.events.proofs.Loops.{traced-stop, traced-step}
 
 abbrev Ok : Phase → Type 0
 Ok s = T (fits binary32 (s .remaining))

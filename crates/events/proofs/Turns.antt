@@ -10,12 +10,12 @@ use mathlib.Core.List.{List, [], _∷_}
 use lib.Dec.{T}
 use lib.Ieee.{Float, binary32, lt, le, fits}
 use lib.Ieee.Fits.{add-fits}
-use Rattle.walk.specs.declared.Leg.{Leg}
-use Rattle.walk.specs.declared.Event.{Event}
+use Rattle.events.specs.declared.Leg.{Leg}
+use Rattle.events.specs.declared.Event.{Event}
 use Rattle.float.specs.Arith.{plus, minus}
-use Rattle.walk.specs.Walk.{resting, rested, goes, onward, tells, finish, Place, Told, cutFrom}
-use Rattle.walk.specs.Zeros.{after, zeroAt, above, firstAbove}
-use Rattle.walk.proofs.Loops.{traced-stop, traced-step}
+use Rattle.events.specs.Walk.{resting, rested, goes, onward, tells, finish, Place, Told, cutFrom}
+use Rattle.events.specs.Zeros.{after, zeroAt, above, firstAbove}
+use Rattle.events.proofs.Loops.{traced-stop, traced-step}
 use Rattle.float.specs.Rank.{rise}
 use Rattle.float.proofs.Rank.{rises, lt-second, sub-second, rise-small}
 

@@ -6,16 +6,16 @@ use lib.Ieee.{Float, eq}
 use Rattle.vec2.specs.declared.Vec2.{Vec2}
 use Rattle.path.specs.declared.Segment.{Segment}
 use Rattle.path.specs.declared.Segment.the-variants.{Move, Line}
-use Rattle.walk.specs.declared.Pos.{Pos}
-use Rattle.walk.specs.declared.Leg.{Leg}
-use Rattle.walk.specs.declared.Event.{Event}
-use Rattle.walk.specs.declared.Event.the-variants.{Nothing, Cut, Reach, Pass}
-use Rattle.walk.specs.Loop.{traced}
+use Rattle.events.specs.declared.Pos.{Pos}
+use Rattle.events.specs.declared.Leg.{Leg}
+use Rattle.events.specs.declared.Event.{Event}
+use Rattle.events.specs.declared.Event.the-variants.{Nothing, Cut, Reach, Pass}
+use Rattle.events.specs.Loop.{traced}
 use Rattle.float.specs.Arith.{f0, plus}
-use Rattle.walk.specs.Walk.{turned, inside, resting, Place, place, goes, onward, tells, cutFrom, beginningAt, cutLeg, passed, counts, legOf, walkFrom, walkPolyline, walkAll}
-use Rattle.walk.specs.Drawn.{drawn}
-use Rattle.walk.specs.Runs.{cornerIf, cornersFrom, corners, Runs, none, run, reached, AllRuns, more}
-use Rattle.walk.proofs.Loops.{traced-ind}
+use Rattle.events.specs.Walk.{turned, inside, resting, Place, place, goes, onward, tells, cutFrom, beginningAt, cutLeg, passed, counts, legOf, walkFrom, walkPolyline, walkAll}
+use Rattle.events.specs.Drawn.{drawn}
+use Rattle.events.specs.Runs.{cornerIf, cornersFrom, corners, Runs, none, run, reached, AllRuns, more}
+use Rattle.events.proofs.Loops.{traced-ind}
 
 -- ---- any events
 

@@ -1,10 +1,10 @@
 -- `next_interval` meets its contract. Assumes nothing.
 use mathlib.Core.Path.{ap}
 use denote.Ref.{now}
-use Rattle.walk.specs.Walk.{entered}
+use Rattle.events.specs.Walk.{entered}
 use borrow.Author.Needs.{needs}
-use Rattle.walk.proofs.next_interval.Statement.{statement}
-use Rattle.walk.proofs.next_interval.Tie as tie
+use Rattle.cycle.proofs.next_interval.Statement.{statement}
+use Rattle.cycle.proofs.next_interval.Tie as tie
 
 next-above-requires : tie.Need-next-above-requires
 next-above-requires c κs = search needs

@@ -4,10 +4,10 @@ use Prim.Native.Nat.{_-_}
 use native.Mathlib.Omega.{arith}
 use denote.Ref.{now}
 use lib.ListN.{length, drop}
-use Rattle.walk.specs.Zeros.{oneAbove}
-use Rattle.walk.proofs.Gaps.{one-on, one-found, one-none}
-use Rattle.walk.proofs.one_above.Statement.{statement}
-use Rattle.walk.proofs.one_above.Tie as tie
+use Rattle.events.specs.Zeros.{oneAbove}
+use Rattle.events.proofs.Gaps.{one-on, one-found, one-none}
+use Rattle.cycle.proofs.one_above.Statement.{statement}
+use Rattle.cycle.proofs.one_above.Tie as tie
 
 abbrev Inv-loop : tie.InvT-loop
 Inv-loop cycle from i₀ i = oneAbove (drop i cycle) ≡ oneAbove (drop from cycle)

@@ -12,18 +12,18 @@ use Rattle.float.specs.Arith.{plus, minus, f0}
 use Rattle.float.specs.Small.{remEuclid}
 use Rattle.vec2.specs.declared.Vec2.{Vec2}
 use Rattle.path.specs.declared.Segment.{Segment}
-use Rattle.walk.specs.declared.Pos.{Pos}
-use Rattle.walk.specs.declared.Leg.{Leg}
-use Rattle.walk.specs.declared.Event.{Event}
-use Rattle.walk.specs.declared.Event.the-variants.{Nothing, Cut, Reach, Pass}
-use Rattle.walk.specs.Loop.{Trace, then, trace, traced}
-use Rattle.walk.specs.Zeros.{after, zeroAt, above, firstAbove, next}
-use Rattle.walk.specs.Phase.{Phase, phaseGoes, phaseNext, phaseFrom, started, startOf}
-use Rattle.walk.specs.Walk.{Place, place, Told, turned, inside, resting, goes, onward, tells, finish, cutFrom, cutLeg, passed, legOf, counts, walkFrom, walkPolyline, walkAll}
-use Rattle.walk.specs.Drawn.{downTo, drawn}
-use Rattle.walk.specs.Source as source
-use Rattle.walk.proofs.Loops.{traced-ind}
-use Rattle.walk.proofs.Turns.{after-in, next-index, first-index}
+use Rattle.events.specs.declared.Pos.{Pos}
+use Rattle.events.specs.declared.Leg.{Leg}
+use Rattle.events.specs.declared.Event.{Event}
+use Rattle.events.specs.declared.Event.the-variants.{Nothing, Cut, Reach, Pass}
+use Rattle.events.specs.Loop.{Trace, then, trace, traced}
+use Rattle.events.specs.Zeros.{after, zeroAt, above, firstAbove, next}
+use Rattle.events.specs.Phase.{Phase, phaseGoes, phaseNext, phaseFrom, started, startOf}
+use Rattle.events.specs.Walk.{Place, place, Told, turned, inside, resting, goes, onward, tells, finish, cutFrom, cutLeg, passed, legOf, counts, walkFrom, walkPolyline, walkAll}
+use Rattle.events.specs.Drawn.{downTo, drawn}
+use Rattle.events.specs.Source as source
+use Rattle.events.proofs.Loops.{traced-ind}
+use Rattle.events.proofs.Turns.{after-in, next-index, first-index}
 
 -- ---- two loops that go alike
 

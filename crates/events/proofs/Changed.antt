@@ -12,12 +12,12 @@ use Rattle.vec2.specs.declared.Vec2.{Vec2}
 use Rattle.vec2.specs.Vec2.{vec}
 use Rattle.path.specs.declared.Segment.{Segment}
 use Rattle.path.specs.declared.Segment.the-variants.{Move, Line}
-use Rattle.walk.specs.Loop.{trace, traced}
-use Rattle.walk.specs.Zeros.{above, gapsOnly}
-use Rattle.walk.specs.Phase.{startOf}
-use Rattle.walk.specs.Walk.{cutFrom, walkFrom, walkPolyline}
-use Rattle.walk.specs.Drawn.{drawn}
-use Rattle.walk.specs.Source as source
+use Rattle.events.specs.Loop.{trace, traced}
+use Rattle.events.specs.Zeros.{above, gapsOnly}
+use Rattle.events.specs.Phase.{startOf}
+use Rattle.events.specs.Walk.{cutFrom, walkFrom, walkPolyline}
+use Rattle.events.specs.Drawn.{drawn}
+use Rattle.events.specs.Source as source
 
 abbrev at : ℕ → ℕ → Vec2
 at a b = vec (whole a) (whole b)

@@ -12,13 +12,13 @@ use Rattle.float.specs.Small.{isFinite}
 use Rattle.vec2.specs.declared.Vec2.{Vec2}
 use Rattle.vec2.specs.Vec2.{_⊕_, _⊖_, _⊙_, len}
 use Rattle.path.specs.declared.Segment.{Segment}
-use Rattle.walk.specs.declared.Pos.{Pos}
-use Rattle.walk.specs.declared.Leg.{Leg}
-use Rattle.walk.specs.declared.Event.{Event}
-use Rattle.walk.specs.declared.Event.the-variants.{Nothing, Cut, Reach, Pass}
-use Rattle.walk.specs.Loop.{Trace, traced}
-use Rattle.walk.specs.Zeros.{next}
-use Rattle.walk.specs.Drawn.{drawn}
+use Rattle.events.specs.declared.Pos.{Pos}
+use Rattle.events.specs.declared.Leg.{Leg}
+use Rattle.events.specs.declared.Event.{Event}
+use Rattle.events.specs.declared.Event.the-variants.{Nothing, Cut, Reach, Pass}
+use Rattle.events.specs.Loop.{Trace, traced}
+use Rattle.events.specs.Zeros.{next}
+use Rattle.events.specs.Drawn.{drawn}
 
 -- ---- one turn
 

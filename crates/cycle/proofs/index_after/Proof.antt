@@ -1,9 +1,9 @@
 -- `index_after` meets its contract. Assumes nothing.
 use native.Mathlib.Omega.{arith}
-use Rattle.walk.proofs.Turns.{next-index, first-index}
+use Rattle.events.proofs.Turns.{next-index, first-index}
 use borrow.Author.Needs.{needs}
-use Rattle.walk.proofs.index_after.Statement.{statement}
-use Rattle.walk.proofs.index_after.Tie as tie
+use Rattle.cycle.proofs.index_after.Statement.{statement}
+use Rattle.cycle.proofs.index_after.Tie as tie
 
 add-if1 : tie.Need-add-if1
 add-if1 c = search needs

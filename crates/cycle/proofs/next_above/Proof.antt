@@ -1,11 +1,11 @@
 -- `next_above` meets its contract. Assumes nothing.
 use mathlib.Core.Path.{_∙_, ap}
 use denote.Ref.{now}
-use Rattle.walk.specs.Zeros.{firstAbove}
-use Rattle.walk.proofs.Turns.{above-here}
+use Rattle.events.specs.Zeros.{firstAbove}
+use Rattle.events.proofs.Turns.{above-here}
 use borrow.Author.Needs.{needs}
-use Rattle.walk.proofs.next_above.Statement.{statement}
-use Rattle.walk.proofs.next_above.Tie as tie
+use Rattle.cycle.proofs.next_above.Statement.{statement}
+use Rattle.cycle.proofs.next_above.Tie as tie
 
 index-after-requires : tie.Need-index-after-requires
 index-after-requires c κs = search needs

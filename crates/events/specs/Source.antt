@@ -9,15 +9,15 @@ use Rattle.float.specs.Arith.{plus, minus, f0}
 use Rattle.float.specs.Small.{remEuclid}
 use Rattle.vec2.specs.declared.Vec2.{Vec2}
 use Rattle.path.specs.declared.Segment.{Segment}
-use Rattle.walk.specs.declared.Pos.{Pos}
-use Rattle.walk.specs.declared.Leg.{Leg}
-use Rattle.walk.specs.declared.Event.{Event}
-use Rattle.walk.specs.declared.Event.the-variants.{Nothing, Cut, Reach, Pass}
-use Rattle.walk.specs.Loop.{traced}
-use Rattle.walk.specs.Zeros.{after, isZero}
-use Rattle.walk.specs.Drawn.{downTo}
-use Rattle.walk.specs.Phase.{Phase, phaseGoes, started}
-use Rattle.walk.specs.Walk.{Place, place, Told, goes, tells, finish, legOf, counts}
+use Rattle.events.specs.declared.Pos.{Pos}
+use Rattle.events.specs.declared.Leg.{Leg}
+use Rattle.events.specs.declared.Event.{Event}
+use Rattle.events.specs.declared.Event.the-variants.{Nothing, Cut, Reach, Pass}
+use Rattle.events.specs.Loop.{traced}
+use Rattle.events.specs.Zeros.{after, isZero}
+use Rattle.events.specs.Drawn.{downTo}
+use Rattle.events.specs.Phase.{Phase, phaseGoes, started}
+use Rattle.events.specs.Walk.{Place, place, Told, goes, tells, finish, legOf, counts}
 
 -- ---- the phase
 
