@@ -2,12 +2,19 @@
 ghost use mathlib.Core.Path.{_≡_};
 ghost use Prim.Native.Nat.{_<_};
 ghost use lib.ListN.{length, drop};
-ghost use Rattle.events.specs.Zeros.{after, firstAbove, next, oneAbove, gapsOnly};
+ghost use Rattle.events.specs.Zeros.{isZero, after, firstAbove, next, oneAbove, gapsOnly};
 ghost use Rattle.events.specs.Phase.{startOf};
-ghost use Rattle.events.specs.Walk.{turned};
+ghost use Rattle.events.specs.Walk.{nothingLeft, turned};
 use events::Pos;
 
 // ---- the cycle
+
+// An interval of 0 is passed over.
+fn is_zero(x: f32) -> bool
+    ensures { λ r. ⌜ r ≡ isZero x ⌝ }
+{
+    x <= 0.0
+}
 
 // The next interval's number.
 fn index_after(cycle: &[f32], index: usize) -> usize
@@ -28,8 +35,7 @@ fn first_above(cycle: &[f32], index: usize) -> usize
     let mut i = index;
     let mut k = 0usize;
     while k < cycle.len() {
-        let c = cycle[i];
-        if c <= 0.0 {
+        if is_zero(cycle[i]) {
             i = index_after(cycle, i);
             k += 1;
         } else {
@@ -45,8 +51,7 @@ fn next_above(cycle: &[f32], index: usize) -> usize
     ensures { λ r. ⌜ (r ≡ next (now (cycle .entry)) index) × (r < length (now (cycle .entry))) ⌝ }
 {
     let i = index_after(cycle, index);
-    let c = cycle[i];
-    if c <= 0.0 {
+    if is_zero(cycle[i]) {
         return first_above(cycle, i);
     }
     i
@@ -58,8 +63,7 @@ fn one_above(cycle: &[f32], from: usize) -> bool
 {
     let mut i = from;
     while i < cycle.len() {
-        let c = cycle[i];
-        if c <= 0.0 {
+        if is_zero(cycle[i]) {
             i += 2;
         } else {
             return true;
@@ -102,6 +106,13 @@ pub fn start_of(cycle: &[f32], phase: f32, period: f32) -> Pos
         left,
         drawing: index % 2 == 0,
     }
+}
+
+// Exactly nothing is left of the interval: less than nothing is not exactly.
+pub fn nothing_left(p: Pos) -> bool
+    ensures { λ r. ⌜ r ≡ nothingLeft p ⌝ }
+{
+    p.left == 0.0
 }
 
 // The next interval that is not 0. Those of even number are drawn.

@@ -3,4 +3,4 @@ pub mod Caps
 pub mod Scratch
 pub mod Answers
 pub mod Runs
-pub mod Source
+pub mod Zeros

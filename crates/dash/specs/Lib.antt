@@ -3,4 +3,4 @@ pub mod Answer
 pub mod Dash
 pub mod Outline
 pub mod Runs
-pub mod Source
+pub mod Zeros

@@ -1,4 +1,4 @@
--- Where no drawn interval is above 0, nothing is drawn. Assumes nothing.
+-- Once round every interval is met: none that is 0 is entered; and where no drawn interval is above 0, nothing is drawn. Assumes nothing.
 use mathlib.Core.Path.{_≡_, refl, sym, _∙_, ap, subst}
 use Prim.Native.Nat.{ℕ, zero, suc, _+_, _-_, _*_, _/_, _%_, _≤_, _<_}
 use native.Mathlib.Omega.{arith}
@@ -8,7 +8,7 @@ use mathlib.Core.List.{List, [], _∷_, _++_, append-assoc, cons≢nil}
 use lib.ListN.{length, getD, drop, length-drop}
 use lib.Seq.{getD-drop}
 use lib.Dec.{eqb, leb}
-use lib.Ieee.{Float, nan, le, eq}
+use lib.Ieee.{Float, nan, le}
 use borrow.Author.Tests.{eqb-true, leb-true, leb-false, not-true, not-false}
 use Rattle.float.specs.Arith.{plus, f0}
 use Rattle.float.specs.Small.{remEuclid}
@@ -20,7 +20,7 @@ use Rattle.events.specs.declared.Event.the-variants.{Nothing, Cut, Reach
 use Rattle.events.specs.Loop.{Trace, traced}
 use Rattle.events.specs.Zeros.{after, zeroAt, above, firstAbove, next, oneAbove, gapsOnly}
 use Rattle.events.specs.Phase.{phaseGoes, phaseNext, startOf}
-use Rattle.events.specs.Walk.{Place, place, inside, resting, turned, goes, onward, tells, cutFrom, beginningAt, cutLeg, passed, legOf, counts, walkFrom, walkPolyline, walkAll}
+use Rattle.events.specs.Walk.{Place, place, inside, resting, nothingLeft, turned, goes, onward, tells, cutFrom, beginningAt, cutLeg, passed, legOf, counts, walkFrom, walkPolyline, walkAll}
 use Rattle.events.specs.Drawn.{drawn}
 use Rattle.events.proofs.Loops.{traced-ind}
 use Rattle.events.proofs.Turns.{next-index, first-index, above-in, both-left}
@@ -130,7 +130,17 @@ module _ (cs : List Float) where
             let s : i + (length cs - i - 1) + 1 ≡ length cs = omega (arith, l) in
             found-by (length cs) (suc (length cs - i - 1 + f .at)) (zeroAt cs i) i refl (omega (arith, h, l)) (ap (zeroAt cs) (wrap (length cs - i - 1) (f .at) i s (f .within)) ∙ f .found)
 
--- ---- so nothing is drawn
+-- so where one interval is not 0 none that is 0 is entered
+module _ (cs : List Float) (k : ℕ) (l : k < length cs) (h : zeroAt cs k ≡ false) where
+  pub next-above : (i : ℕ) → zeroAt cs (next cs i) ≡ false
+  next-above i = met cs (record { at = k; within = l; found = h }) (after cs i) (mod-lt (i + 1) (omega (arith, l)))
+
+  pub start-above : (phase period : Float) → zeroAt cs (startOf cs phase period .index) ≡ false
+  start-above phase period =
+      traced-ind (phaseGoes cs) (phaseNext cs) (λ z. z .index) (λ s r. zeroAt cs (s .index) ≡ false → zeroAt cs (r .end .index) ≡ false) (λ s e. e) (λ s r f e. f (next-above (s .index)))
+      (record { index = firstAbove cs 0; remaining = remEuclid phase period }) (met cs (record { at = k; within = l; found = h }) 0 (omega (arith, l)))
+
+-- ---- where no drawn interval is above 0 nothing is drawn
 
 abbrev Silent : List Event → Type 0
 Silent es = (d : Bool) → drawn d es ≡ []
@@ -211,11 +221,11 @@ module _ (cs : List Float) (only : gapsOnly cs ≡ true) where
     silent-cut true p h =
         let s = place (turned cs p) f0 in
         let l = silent-leg s (next-gap (p .index)) in
-        (l .0, λ es m d. silent-beginning (g .from) (cutFrom cs g s .events) es (l .1 es m) false)
+        (l .0, λ es m d. silent-beginning _ (cutFrom cs g s .events) es (l .1 es m) false)
     silent-cut false p h = silent-leg (place p f0) h
 
     silent-passed : (w : Bool) (p : Pos) → p .drawing ≡ false → (passed w cs g p .pos .drawing ≡ false) × ((es : List Event) → Silent es → Silent (passed w cs g p .events ++ es))
-    silent-passed true p h = silent-cut (eq (p .left) f0) p h
+    silent-passed true p h = silent-cut (nothingLeft p) p h
     silent-passed false p h = (h, λ es m. m)
 
   silent-walk : (a : Vec2) (ps : List Vec2) (p : Pos) → p .drawing ≡ false → Silent (walkFrom cs a ps p)

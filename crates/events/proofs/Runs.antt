@@ -2,7 +2,7 @@
 use mathlib.Core.Path.{_≡_, refl, _∙_, ap}
 use mathlib.Core.Bool.{Bool, true, false}
 use mathlib.Core.List.{List, [], _∷_, _++_, map}
-use lib.Ieee.{Float, eq}
+use lib.Ieee.{Float}
 use Rattle.vec2.specs.declared.Vec2.{Vec2}
 use Rattle.path.specs.declared.Segment.{Segment}
 use Rattle.path.specs.declared.Segment.the-variants.{Move, Line}
@@ -12,7 +12,7 @@ use Rattle.events.specs.declared.Event.{Event}
 use Rattle.events.specs.declared.Event.the-variants.{Nothing, Cut, Reach, Pass}
 use Rattle.events.specs.Loop.{traced}
 use Rattle.float.specs.Arith.{f0, plus}
-use Rattle.events.specs.Walk.{turned, inside, resting, Place, place, goes, onward, tells, cutFrom, beginningAt, cutLeg, passed, counts, legOf, walkFrom, walkPolyline, walkAll}
+use Rattle.events.specs.Walk.{nothingLeft, turned, inside, resting, Place, place, goes, onward, tells, cutFrom, beginningAt, cutLeg, passed, counts, legOf, walkFrom, walkPolyline, walkAll}
 use Rattle.events.specs.Drawn.{drawn}
 use Rattle.events.specs.Runs.{cornerIf, cornersFrom, corners, Runs, none, run, reached, AllRuns, more}
 use Rattle.events.proofs.Loops.{traced-ind}
@@ -93,11 +93,11 @@ reached-beginning a (Reach b c ∷ es) = refl
 reached-beginning a (Pass c ∷ es) = refl
 
 reached-cut : (b : Bool) (cs : List Float) (g : Leg) (p : Pos) → reached (cutLeg b cs g p .events) ≡ g .to ∷ []
-reached-cut true cs g p = reached-beginning (g .from) (cutFrom cs g (place (turned cs p) f0) .events) ∙ reached-leg cs g (place (turned cs p) f0)
+reached-cut true cs g p = reached-beginning _ (cutFrom cs g (place (turned cs p) f0) .events) ∙ reached-leg cs g (place (turned cs p) f0)
 reached-cut false cs g p = reached-leg cs g (place p f0)
 
 reached-passed : (w : Bool) (cs : List Float) (g : Leg) (p : Pos) → reached (passed w cs g p .events) ≡ cornerIf w (g .to)
-reached-passed true cs g p = reached-cut (eq (p .left) f0) cs g p
+reached-passed true cs g p = reached-cut (nothingLeft p) cs g p
 reached-passed false cs g p = refl
 
 reached-walk : (cs : List Float) (a : Vec2) (ps : List Vec2) (p : Pos) → reached (walkFrom cs a ps p) ≡ cornersFrom a ps

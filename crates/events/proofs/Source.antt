@@ -6,7 +6,7 @@ use mathlib.Core.Bool.{Bool, true, false, not, _&&_, _||_, true≢false}
 use mathlib.Core.List.{List, [], _∷_, _++_, append-assoc}
 use lib.ListN.{length, getD}
 use lib.Dec.{eqb, ltb}
-use lib.Ieee.{Float, nan, le, eq}
+use lib.Ieee.{Float, nan, le}
 use borrow.Author.Tests.{ltb-true, ltb-false, eqb-true, eqb-false, eq-eqb, ne-eqb}
 use Rattle.float.specs.Arith.{plus, minus, f0}
 use Rattle.float.specs.Small.{remEuclid}
@@ -19,7 +19,7 @@ use Rattle.events.specs.declared.Event.the-variants.{Nothing, Cut, Reach
 use Rattle.events.specs.Loop.{Trace, then, trace, traced}
 use Rattle.events.specs.Zeros.{after, zeroAt, above, firstAbove, next}
 use Rattle.events.specs.Phase.{Phase, phaseGoes, phaseNext, phaseFrom, started, startOf}
-use Rattle.events.specs.Walk.{Place, place, Told, turned, inside, resting, goes, onward, tells, finish, cutFrom, cutLeg, passed, legOf, counts, walkFrom, walkPolyline, walkAll}
+use Rattle.events.specs.Walk.{Place, place, Told, nothingLeft, turned, inside, resting, goes, onward, tells, finish, cutFrom, cutLeg, passed, legOf, counts, walkFrom, walkPolyline, walkAll}
 use Rattle.events.specs.Drawn.{downTo, drawn}
 use Rattle.events.specs.Source as source
 use Rattle.events.proofs.Loops.{traced-ind}
@@ -146,7 +146,7 @@ module _ (cs : List Float) (nz : source.noZero cs ≡ true) (even : length cs % 
           a .ends .1,
         )
 
-    leg-same : (w : Bool) (p : Pos) → Good p → w && eq (p .left) f0 ≡ false → (passed w cs g p ≡ source.passed w cs g p) × Good (source.passed w cs g p .pos)
+    leg-same : (w : Bool) (p : Pos) → Good p → w && nothingLeft p ≡ false → (passed w cs g p ≡ source.passed w cs g p) × Good (source.passed w cs g p .pos)
     leg-same true p h e = let l = leg p h in (ap (λ (z : Bool). cutLeg z cs g p) e ∙ l .0, l .1)
     leg-same false p h e = (refl, h)
 
@@ -156,9 +156,9 @@ module _ (cs : List Float) (nz : source.noZero cs ≡ true) (even : length cs % 
   walk-same a (b ∷ ps) p h e =
       let g = legOf a b in
       let z = source.passed (counts g) cs g p in
-      let l = leg-same g (counts g) p h (or-first (counts g && eq (p .left) f0) (source.exactFrom cs b ps (z .pos)) e) in
+      let l = leg-same g (counts g) p h (or-first (counts g && nothingLeft p) (source.exactFrom cs b ps (z .pos)) e) in
       ap (λ (c : Told). c .events ++ walkFrom cs b ps (c .pos)) (l .0)
-      ∙ ap (λ (es : List Event). z .events ++ es) (walk-same b ps (z .pos) (l .1) (or-rest (counts g && eq (p .left) f0) (source.exactFrom cs b ps (z .pos)) e))
+      ∙ ap (λ (es : List Event). z .events ++ es) (walk-same b ps (z .pos) (l .1) (or-rest (counts g && nothingLeft p) (source.exactFrom cs b ps (z .pos)) e))
 
   pub line-same : (start : Pos) (ps : List Vec2) → Good start → source.exact cs start ps ≡ false → walkPolyline cs start ps ≡ source.walkPolyline cs start ps
   line-same start [] h e = refl

@@ -4,7 +4,7 @@ use Prim.Native.Nat.{ℕ}
 use mathlib.Core.Bool.{Bool, true, false, not, _&&_, _||_, cond}
 use mathlib.Core.List.{List, [], _∷_, _++_}
 use lib.ListN.{getD}
-use lib.Ieee.{Float, nan, eq}
+use lib.Ieee.{Float, nan}
 use Rattle.float.specs.Arith.{plus, minus, f0}
 use Rattle.float.specs.Small.{remEuclid}
 use Rattle.vec2.specs.declared.Vec2.{Vec2}
@@ -17,7 +17,7 @@ use Rattle.events.specs.Loop.{traced}
 use Rattle.events.specs.Zeros.{after, isZero}
 use Rattle.events.specs.Drawn.{downTo}
 use Rattle.events.specs.Phase.{Phase, phaseGoes, started}
-use Rattle.events.specs.Walk.{Place, place, Told, goes, tells, finish, legOf, counts}
+use Rattle.events.specs.Walk.{Place, place, Told, nothingLeft, goes, tells, finish, legOf, counts}
 
 -- ---- the phase
 
@@ -90,7 +90,7 @@ unfoldable pub exactFrom : List Float → Vec2 → List Vec2 → Pos → Bool
 exactFrom cs a [] p = false
 exactFrom cs a (b ∷ ps) p =
     let g = legOf a b in
-    (counts g && eq (p .left) f0) || exactFrom cs b ps (passed (counts g) cs g p .pos)
+    (counts g && nothingLeft p) || exactFrom cs b ps (passed (counts g) cs g p .pos)
 
 abbrev pub exact : List Float → Pos → List Vec2 → Bool
 exact cs start [] = false

@@ -30,6 +30,10 @@ pointOn g t = g .from ⊕ g .way ⊙ over t (g .length)
 abbrev pub entered : List Float → ℕ → Pos
 entered cs i = record { index = i; left = getD cs i nan; drawing = eqb (i % 2) 0 }
 
+-- exactly nothing is left of the interval (W6)
+abbrev pub nothingLeft : Pos → Bool
+nothingLeft p = eq (p .left) f0
+
 -- the next interval that is not passed over (W6)
 abbrev pub turned : List Float → Pos → Pos
 turned cs p = entered cs (next cs (p .index))
@@ -102,7 +106,7 @@ abbrev pub counts : Leg → Bool
 counts g = isFinite (g .length) && not (le (g .length) f0)
 
 abbrev pub passed : Bool → List Float → Leg → Pos → Told
-passed true cs g p = cutLeg (eq (p .left) f0) cs g p
+passed true cs g p = cutLeg (nothingLeft p) cs g p
 passed false cs g p = record { events = []; pos = p }
 
 unfoldable pub walkFrom : List Float → Vec2 → List Vec2 → Pos → List Event

@@ -1,10 +1,13 @@
 -- A pattern's tests and its working cycle (`is_usable`, `cycle`, dash.rs; "Dash" of the scope). Definitions only.
 use Prim.Native.Nat.{_%_}
+use mathlib.Core.Path.{_≡_}
+use mathlib.Core.Logic.{_⊎_}
 use mathlib.Core.Bool.{Bool, true, false, _&&_, cond}
 use mathlib.Core.List.{List, [], _∷_, _++_}
 use lib.ListN.{length}
 use lib.Dec.{eqb}
-use lib.Ieee.{Float, lt, le}
+use lib.IntN.{pos}
+use lib.Ieee.{Float, fin, lt, le}
 use Rattle.float.specs.Arith.{plus, f0}
 use Rattle.float.specs.Small.{isFinite}
 
@@ -33,6 +36,11 @@ some (x ∷ xs) = true
 -- it is the sum as given that is judged here, not the working cycle's
 abbrev pub usable : List Float → Float → Bool
 usable ps phase = some ps && (allGood ps && (lt f0 (sumFrom f0 ps) && isFinite phase))
+
+-- zeros alone, 0 or −0 (W6)
+abbrev pub AllZero : List Float → Type 0
+AllZero [] = Unit
+AllZero (x ∷ xs) = ((x ≡ fin false 0 (pos 0)) ⊎ (x ≡ fin true 0 (pos 0))) × AllZero xs
 
 -- the working cycle's sum
 abbrev pub period : List Float → Float

@@ -5,7 +5,7 @@ use native.Mathlib.Omega.{arith}
 use mathlib.Core.Bool.{Bool, true, false, true≢false}
 use mathlib.Core.List.{List, [], _∷_, _++_}
 use lib.ListN.{length, getD, drop, length-drop}
-use lib.Ieee.{Float, nan, eq, binary32}
+use lib.Ieee.{Float, nan, binary32}
 use lib.Ieee.Bits.{ofBits-fits}
 use Rattle.vec2.specs.declared.Vec2.{Vec2}
 use Rattle.vec2.specs.Vec2.{vec}
@@ -17,7 +17,7 @@ use Rattle.events.specs.declared.Event.the-variants.{Nothing}
 use Rattle.events.specs.declared.Leg.{Leg}
 use Rattle.walk.specs.declared.Walked.{Walked}
 use Rattle.float.specs.Arith.{f0, plus}
-use Rattle.events.specs.Walk.{turned, inside, resting, Told, Place, place, goes, onward, cutFrom, beginningAt, cutLeg, passed, counts, legOf, walkFrom, walkPolyline}
+use Rattle.events.specs.Walk.{nothingLeft, turned, inside, resting, Told, Place, place, goes, onward, cutFrom, beginningAt, cutLeg, passed, counts, legOf, walkFrom, walkPolyline}
 use Rattle.walk.proofs.Lays.{room-start}
 use Rattle.walk.specs.Lay.{Room, Sheet, laid, layEvent, layAll, layTurn}
 use Rattle.walk.specs.Count.{tallyTurn}
@@ -27,7 +27,7 @@ pub lay-append : (s : Sheet) (es fs : List Event) → layAll s (es ++ fs) ≡ la
 lay-append s [] fs = refl
 lay-append s (e ∷ es) fs = lay-append (layEvent s e) es fs
 
-pub did : (b : Bool) (cs : List Float) (g : Leg) (p : Pos) → b ≡ true → cutLeg (eq (p .left) f0) cs g p ≡ passed b cs g p
+pub did : (b : Bool) (cs : List Float) (g : Leg) (p : Pos) → b ≡ true → cutLeg (nothingLeft p) cs g p ≡ passed b cs g p
 did true cs g p h = refl
 did false cs g p h = absurd (true≢false (sym h))
 

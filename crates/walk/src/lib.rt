@@ -3,12 +3,12 @@ ghost use mathlib.Core.Path.{_≡_};
 ghost use mathlib.Core.Bool.{true, false, not, _&&_};
 ghost use Prim.Native.Nat.{_+_, _*_, _^_, _≤_, _<_};
 ghost use lib.ListN.{length};
-ghost use lib.Ieee.{le, eq};
+ghost use lib.Ieee.{le};
 ghost use Rattle.float.specs.Arith.{f0};
 ghost use Rattle.float.specs.Small.{isFinite};
 ghost use Rattle.vec2.specs.Vec2.{_⊖_, len};
 ghost use Rattle.vec2.specs.Points.{pointsIn};
-ghost use Rattle.events.specs.Walk.{turned, pointOn, inside as insideOf, resting as restingOf, rested, place, cutFrom, passed, counts, legOf, walkPolyline};
+ghost use Rattle.events.specs.Walk.{nothingLeft, turned, pointOn, inside as insideOf, resting as restingOf, rested, place, cutFrom, passed, counts, legOf, walkPolyline};
 ghost use Rattle.walk.specs.Lengths.{Kept, KeptAt};
 ghost use Rattle.events.specs.Drawn.{drawn};
 ghost use Rattle.walk.specs.Lay.{sheet, out, layVerb, stroke, layEvent, layAll, layTurn, laid, Room};
@@ -190,14 +190,15 @@ fn count_leg(cycle: &[f32], g: Leg, w: Walked, cap: usize) -> Walked
     Walked { pos, tip }
 }
 
-// Where exactly nothing is left of the interval it ended where the leg begins: the pen is up, and the next one begins.
+// Where exactly nothing is left of the interval it ended where the leg begins: the pen is up, and the next one begins. Otherwise the answer is made anew from
+// its fields: a copy of the whole struct would go through memory, at every leg.
 fn turn_count(cycle: &[f32], w: Walked) -> Walked
     requires { ⌜ w .pos .index < length (now cycle) ⌝ }
-    ensures { λ r. ⌜ (r ≡ tallyTurn (eq (w .pos .left) f0) (now (cycle .entry)) w) × (r .pos .index < length (now (cycle .entry))) ⌝ }
+    ensures { λ r. ⌜ (r ≡ tallyTurn (nothingLeft (w .pos)) (now (cycle .entry)) w) × (r .pos .index < length (now (cycle .entry))) ⌝ }
 {
     let p = w.pos;
     let k = w.tip;
-    if p.left == 0.0 {
+    if cycle::nothing_left(p) {
         let pos = cycle::next_interval(cycle, p);
         let tip = Tip {
             at: k.at,
@@ -364,18 +365,18 @@ fn begin(verbs: &mut [u8], floats: &mut [f32], tip: Tip, drawing: bool, a: Vec2)
     }
 }
 
-// Where exactly nothing is left of the interval it ended where the leg begins, at a, and the next one begins there.
+// Where exactly nothing is left of the interval it ended where the leg begins, at a, and the next one begins there. Otherwise as in counting.
 fn turn_leg(cycle: &[f32], a: Vec2, w: Walked, verbs: &mut [u8], floats: &mut [f32]) -> Walked
     requires { ⌜ (w .pos .index < length (now cycle))
-        × Room (length (now verbs)) (length (now floats)) (layTurn (eq (w .pos .left) f0) (turned (now cycle) (w .pos) .drawing) (sheet (now verbs) (now floats) (w .tip)) a .page) ⌝ }
-    ensures turned { λ r. ⌜ r .pos ≡ tallyTurn (eq (w .pos .left) f0) (now (cycle .entry)) w .pos ⌝ }
+        × Room (length (now verbs)) (length (now floats)) (layTurn (nothingLeft (w .pos)) (turned (now cycle) (w .pos) .drawing) (sheet (now verbs) (now floats) (w .tip)) a .page) ⌝ }
+    ensures turned { λ r. ⌜ r .pos ≡ tallyTurn (nothingLeft (w .pos)) (now (cycle .entry)) w .pos ⌝ }
     ensures laid { λ r. ⌜ sheet (now (verbs .exit)) (now (floats .exit)) (r .tip)
-        ≡ layTurn (eq (w .pos .left) f0) (turned (now (cycle .entry)) (w .pos) .drawing) (sheet (now (verbs .entry)) (now (floats .entry)) (w .tip)) a ⌝ }
+        ≡ layTurn (nothingLeft (w .pos)) (turned (now (cycle .entry)) (w .pos) .drawing) (sheet (now (verbs .entry)) (now (floats .entry)) (w .tip)) a ⌝ }
     ensures indexed { λ r. ⌜ r .pos .index < length (now (cycle .entry)) ⌝ }
 {
     let p = w.pos;
     let k = w.tip;
-    if p.left == 0.0 {
+    if cycle::nothing_left(p) {
         let pos = cycle::next_interval(cycle, p);
         let tip = begin(verbs, floats, k, pos.drawing, a);
         return Walked { pos, tip };

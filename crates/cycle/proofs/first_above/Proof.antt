@@ -1,11 +1,12 @@
 -- `first_above` meets its contract. Assumes nothing.
-use mathlib.Core.Path.{_≡_, _∙_, ap}
+use mathlib.Core.Path.{_≡_, sym, _∙_, ap}
 use Prim.Native.Nat.{ℕ, _+_, _-_, _≤_, _<_}
 use native.Mathlib.Omega.{arith}
 use denote.Ref.{now}
 use lib.ListN.{length}
 use Rattle.events.specs.Zeros.{zeroAt, above, firstAbove}
 use Rattle.events.proofs.Turns.{above-on, above-found, above-all, above-start}
+use borrow.Author.Needs.{needs}
 use Rattle.cycle.proofs.first_above.Statement.{statement}
 use Rattle.cycle.proofs.first_above.Tie as tie
 
@@ -18,14 +19,17 @@ abbrev μ-loop : tie.MeasureT-loop
 loop-holds : tie.Need-loop-holds Inv-loop μ-loop
 loop-holds c = (above-start _ _, c .before .pre, omega arith)
 
-mul-c : tie.Need-mul-c Inv-loop μ-loop
-mul-c c = omega arith
+mul-is-zero : tie.Need-mul-is-zero Inv-loop μ-loop
+mul-is-zero c = omega arith
 
-shared-slice-read-c : tie.Need-shared-slice-read-c Inv-loop μ-loop
-shared-slice-read-c c = omega arith
+shared-slice-read-is-zero : tie.Need-shared-slice-read-is-zero Inv-loop μ-loop
+shared-slice-read-is-zero c = omega arith
+
+is-zero-requires : tie.Need-is-zero-requires Inv-loop μ-loop
+is-zero-requires c κs = search needs
 
 index-after-requires : tie.Need-index-after-requires Inv-loop μ-loop
-index-after-requires c κs = c .before .before .before .loop .inv .1
+index-after-requires c κs = c .before .before .before .before .loop .inv .1
 
 add-k : tie.Need-add-k Inv-loop μ-loop
 add-k c = omega arith
@@ -35,16 +39,19 @@ loop-less c = omega arith
 
 loop-again : tie.Need-loop-again Inv-loop μ-loop
 loop-again c =
-    let l = c .before .before .before .before .loop in
-    let a = c .before .before .before .before .before .before .args in
+    let l = c .before .before .before .before .before .loop in
+    let cs = now (c .before .before .before .before .before .before .before .args .cycle) in
     let e = c .index-after .ensures in
-    let h = c .before .before .before .loop-test .taken in
-    (ap (λ (j : ℕ). above (now (a .cycle)) (length (now (a .cycle)) - (l .k + 1)) (zeroAt (now (a .cycle)) j) j) (e .0) ∙ above-on (now (a .cycle)) (l .k) (l .i) (c .before .if1 .taken) h ∙ l .inv .0, e .1, omega (arith, h))
+    let h = c .before .before .before .before .loop-test .taken in (
+      ap (λ (j : ℕ). above cs (length cs - (l .k + 1)) (zeroAt cs j) j) (e .0) ∙ above-on cs (l .k) (l .i) (sym (c .before .before .is-zero .ensures) ∙ c .before .if1 .taken) h ∙ l .inv .0,
+      e .1,
+      omega (arith, h),
+    )
 
 returns : tie.Need-returns Inv-loop μ-loop
 returns c =
-    let l = c .before .before .before .loop in
-    (above-found (now (c .before .before .before .before .before .args .cycle)) (l .k) (l .i) (c .if1 .left) ∙ l .inv .0, l .inv .1)
+    let l = c .before .before .before .before .loop in
+    (above-found (now (c .before .before .before .before .before .before .args .cycle)) (l .k) (l .i) (sym (c .before .is-zero .ensures) ∙ c .if1 .left) ∙ l .inv .0, l .inv .1)
 
 returns-2 : tie.Need-returns-2 Inv-loop μ-loop
 returns-2 c =
@@ -58,8 +65,9 @@ first-above-spec =
     Inv-loop
     μ-loop
     loop-holds
-    mul-c
-    shared-slice-read-c
+    mul-is-zero
+    shared-slice-read-is-zero
+    is-zero-requires
     index-after-requires
     add-k
     loop-less

@@ -2,10 +2,8 @@
 use mathlib.Core.Path.{sym, _∙_, ap, subst}
 use native.Mathlib.Omega.{arith}
 use denote.Ref.{now}
-use lib.Ieee.{eq}
-use Rattle.float.specs.Arith.{f0}
 use Rattle.walk.specs.declared.Walked.{Walked}
-use Rattle.events.specs.Walk.{Told, counts}
+use Rattle.events.specs.Walk.{nothingLeft, Told, counts}
 use Rattle.walk.specs.Count.{tallied, UpTo, laidBy}
 use Rattle.walk.proofs.Counts.{through, turned-counts, turned-at}
 use Rattle.walk.proofs.Lines.{did, did-not}
@@ -23,14 +21,14 @@ count-leg-requires : tie.Need-count-leg-requires
 count-leg-requires c κs =
     let a = c .before .before .before .before .args in
     let t = c .turn-count in
-    (t .ensures .1, omega (arith, c .before .before .before .before .pre .1, turned-at (eq (a .w .pos .left) f0) (now (a .cycle)) (a .w) (t .result) (t .ensures .0)), c .before .before .before .before .pre .2)
+    (t .ensures .1, omega (arith, c .before .before .before .before .pre .1, turned-at (nothingLeft (a .w .pos)) (now (a .cycle)) (a .w) (t .result) (t .ensures .0)), c .before .before .before .before .pre .2)
 
 returns : tie.Need-returns
 returns c =
     let a = c .before .before .before .before .before .args in
     let t = c .before .turn-count in
     let d = did (counts (a .g)) (now (a .cycle)) (a .g) (a .w .pos) (sym (c .before .before .before .is-walked .ensures) ∙ c .before .before .if1 .taken) in
-    let e = turned-counts (eq (a .w .pos .left) f0) (now (a .cycle)) (a .w) (t .result) (t .ensures .0) (a .g) ∙ ap (λ (z : Told). tallied z (a .w .tip)) d in
+    let e = turned-counts (nothingLeft (a .w .pos)) (now (a .cycle)) (a .w) (t .result) (t .ensures .0) (a .g) ∙ ap (λ (z : Told). tallied z (a .w .tip)) d in
     (subst (λ (z : Walked). UpTo laidBy (a .cap) z (c .count-leg .result)) e (c .count-leg .ensures .0), c .count-leg .ensures .1)
 
 returns-2 : tie.Need-returns-2

@@ -2,9 +2,7 @@
 use mathlib.Core.Path.{sym, _∙_, ap, subst}
 use denote.Ref.{now}
 use lib.ListN.{length}
-use lib.Ieee.{eq}
-use Rattle.float.specs.Arith.{f0}
-use Rattle.events.specs.Walk.{Told, counts}
+use Rattle.events.specs.Walk.{nothingLeft, Told, counts}
 use Rattle.walk.specs.Lay.{Room, sheet, layAll}
 use Rattle.walk.proofs.Lines.{did, did-not, room-in, turn-room, turned-goes, turned-lays}
 use borrow.Author.Needs.{needs}
@@ -20,7 +18,7 @@ turn-leg-requires c κs =
     let s = sheet (now (a .verbs)) (now (a .floats)) (a .w .tip) in
     let d = did (counts (a .g)) (now (a .cycle)) (a .g) (a .w .pos) (sym (c .before .before .before .is-walked .ensures) ∙ c .before .before .if1 .taken) in (
       c .before .before .before .before .before .before .before .pre .0,
-      turn-room (now (a .cycle)) (a .g) (a .w) (length (now (a .verbs))) (length (now (a .floats))) (eq (a .w .pos .left) f0) s
+      turn-room (now (a .cycle)) (a .g) (a .w) (length (now (a .verbs))) (length (now (a .floats))) (nothingLeft (a .w .pos)) s
           (subst (λ (z : Told). Room (length (now (a .verbs))) (length (now (a .floats))) (layAll s (z .events) .page)) (sym d) (c .before .before .before .before .before .before .before .pre .1)),
     )
 
@@ -30,7 +28,7 @@ lay-leg-requires c κs =
     let s = sheet (now (a .verbs)) (now (a .floats)) (a .w .tip) in
     let t = c .before .before .before .before .before .before .turn-leg in
     let d = did (counts (a .g)) (now (a .cycle)) (a .g) (a .w .pos) (sym (c .before .before .before .before .before .before .before .before .before .before .is-walked .ensures) ∙ c .before .before .before .before .before .before .before .before .before .if1 .taken) in
-    let e = turned-lays (now (a .cycle)) (a .g) (a .w) (eq (a .w .pos .left) f0) (t .result .pos) (t .ensures .0) s _ (t .ensures .1 .0) ∙ ap (λ (z : Told). layAll s (z .events)) d in
+    let e = turned-lays (now (a .cycle)) (a .g) (a .w) (nothingLeft (a .w .pos)) (t .result .pos) (t .ensures .0) s _ (t .ensures .1 .0) ∙ ap (λ (z : Told). layAll s (z .events)) d in
     (t .ensures .1 .1, room-in (t .kept .1 .1 .1 .0) (t .kept .1 .1 .1 .1 .0) e (c .before .before .before .before .before .before .before .before .before .before .before .before .before .before .pre .1))
 
 same-length : tie.Need-same-length
@@ -45,7 +43,7 @@ returns c =
     let s = sheet (now (a .verbs)) (now (a .floats)) (a .w .tip) in
     let t = c .before .before .before .before .before .before .before .before .before .before .before .turn-leg in
     let l = c .before .before .before .before .lay-leg .ensures in
-    let b = eq (a .w .pos .left) f0 in
+    let b = nothingLeft (a .w .pos) in
     let d = did (counts (a .g)) (now (a .cycle)) (a .g) (a .w .pos) (sym (c .before .before .before .before .before .before .before .before .before .before .before .before .before .before .before .is-walked .ensures) ∙ c .before .before .before .before .before .before .before .before .before .before .before .before .before .before .if1 .taken) in (
       l .0 ∙ turned-goes (now (a .cycle)) (a .g) (a .w) b (t .result .pos) (t .ensures .0) ∙ ap (λ (z : Told). z .pos) d,
       (

@@ -9,6 +9,9 @@ use borrow.Author.Needs.{needs}
 use Rattle.walk.proofs.turn_count.Statement.{statement}
 use Rattle.walk.proofs.turn_count.Tie as tie
 
+nothing-left-requires : tie.Need-nothing-left-requires
+nothing-left-requires c κs = search needs
+
 next-interval-requires : tie.Need-next-interval-requires
 next-interval-requires c κs = search needs
 
@@ -16,12 +19,12 @@ returns : tie.Need-returns
 returns c =
     let a = c .before .before .before .before .before .before .args in
     let e = c .next-interval .ensures in
-    (ap (λ (p : Pos). record { pos = p; tip = record { at = a .w .tip .at; down = false } }) (e .0) ∙ sym (ap (λ (b : Bool). tallyTurn b (now (a .cycle)) (a .w)) (c .before .if1 .taken)), e .1)
+    (ap (λ (p : Pos). record { pos = p; tip = record { at = a .w .tip .at; down = false } }) (e .0) ∙ sym (ap (λ (b : Bool). tallyTurn b (now (a .cycle)) (a .w)) (sym (c .before .before .nothing-left .ensures) ∙ c .before .if1 .taken)), e .1)
 
 returns-2 : tie.Need-returns-2
 returns-2 c =
     let a = c .before .before .before .before .before .args in
-    (sym (ap (λ (b : Bool). tallyTurn b (now (a .cycle)) (a .w)) (c .if1 .left)), c .before .before .before .before .before .pre)
+    (sym (ap (λ (b : Bool). tallyTurn b (now (a .cycle)) (a .w)) (sym (c .before .nothing-left .ensures) ∙ c .if1 .left)), c .before .before .before .before .before .pre)
 
 pub turn-count-spec : {M : Type 1} → statement M
-turn-count-spec = tie.close (tie.spec next-interval-requires returns returns-2)
+turn-count-spec = tie.close (tie.spec nothing-left-requires next-interval-requires returns returns-2)

@@ -12,6 +12,9 @@ use borrow.Author.Needs.{needs}
 use Rattle.walk.proofs.turn_leg.Statement.{statement}
 use Rattle.walk.proofs.turn_leg.Tie as tie
 
+nothing-left-requires : tie.Need-nothing-left-requires
+nothing-left-requires c κs = search needs
+
 next-interval-requires : tie.Need-next-interval-requires
 next-interval-requires c κs = search needs
 
@@ -20,7 +23,7 @@ begin-requires c κs =
     let a = c .before .before .before .before .before .before .before .before .before .before .args in
     let s = sheet (now (a .verbs)) (now (a .floats)) (a .w .tip) in
     let e = c .before .before .next-interval .ensures .0 in
-    let h = c .before .before .before .if1 .taken in
+    let h = sym (c .before .before .before .before .nothing-left .ensures) ∙ c .before .before .before .if1 .taken in
     subst (λ (p : Pos). Room (length (now (a .verbs))) (length (now (a .floats))) (layTurn true (p .drawing) s (a .a) .page)) (sym e)
     (subst (λ (b : Bool). Room (length (now (a .verbs))) (length (now (a .floats))) (layTurn b (turned (now (a .cycle)) (a .w .pos) .drawing) s (a .a) .page)) h
     (c .before .before .before .before .before .before .before .before .before .before .pre .1))
@@ -36,7 +39,7 @@ returns c =
     let a = c .before .before .before .before .before .before .before .before .before .before .before .before .before .before .before .args in
     let s = sheet (now (a .verbs)) (now (a .floats)) (a .w .tip) in
     let e = c .before .before .before .before .before .before .before .next-interval .ensures in
-    let h = c .before .before .before .before .before .before .before .before .if1 .taken in
+    let h = sym (c .before .before .before .before .before .before .before .before .before .nothing-left .ensures) ∙ c .before .before .before .before .before .before .before .before .if1 .taken in
     let o = c .before .before .before .before .begin .ensures in (
       e .0 ∙ sym (ap (λ (b : Bool). tallyTurn b (now (a .cycle)) (a .w) .pos) h),
       (
@@ -49,11 +52,11 @@ returns-2 : tie.Need-returns-2
 returns-2 c =
     let a = c .before .before .before .before .before .before .before .args in
     let s = sheet (now (a .verbs)) (now (a .floats)) (a .w .tip) in (
-      sym (ap (λ (b : Bool). tallyTurn b (now (a .cycle)) (a .w) .pos) (c .if1 .left)),
-      (sym (ap (λ (b : Bool). layTurn b (turned (now (a .cycle)) (a .w .pos) .drawing) s (a .a)) (c .if1 .left)), c .before .before .before .before .before .before .before .pre .0),
+      sym (ap (λ (b : Bool). tallyTurn b (now (a .cycle)) (a .w) .pos) (sym (c .before .nothing-left .ensures) ∙ c .if1 .left)),
+      (sym (ap (λ (b : Bool). layTurn b (turned (now (a .cycle)) (a .w .pos) .drawing) s (a .a)) (sym (c .before .nothing-left .ensures) ∙ c .if1 .left)), c .before .before .before .before .before .before .before .pre .0),
     )
 
 pub turn-leg-spec : {M : Type 1} → statement M
 turn-leg-spec =
     tie.close
-    (tie.spec next-interval-requires begin-requires same-length same-length-2 returns returns-2)
+    (tie.spec nothing-left-requires next-interval-requires begin-requires same-length same-length-2 returns returns-2)

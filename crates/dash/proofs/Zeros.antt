@@ -1,4 +1,4 @@
--- Where the source still decides, the dashes are its own. Assumes nothing.
+-- Zeros and corners in a pattern: `ZerosAndCorners` holds of every pattern and phase. Assumes nothing.
 use mathlib.Core.Path.{_≡_, refl, sym}
 use Prim.Native.Nat.{ℕ, _%_, _<_}
 use native.Mathlib.Omega.{arith}
@@ -14,8 +14,10 @@ use Rattle.flatten.specs.Polylines.{polylines}
 use Rattle.pattern.specs.Cycle.{some, cycleOf, period}
 use Rattle.events.specs.Source.{noZero, exactAny}
 use Rattle.events.proofs.Source.{all-as-source}
+use Rattle.events.proofs.Gaps.{start-above, next-above, nothing-drawn}
+use Rattle.pattern.proofs.Zeros.{zeros-alone}
 use Rattle.dash.specs.Dash.{dashes}
-use Rattle.dash.specs.Source.{sourceStart, sourceDashes, sourceDecides}
+use Rattle.dash.specs.Zeros.{sourceStart, sourceDashes, sourceDecides, ZerosAndCorners}
 
 first : (a b : Bool) → a && b ≡ true → a ≡ true
 first true b h = refl
@@ -56,7 +58,7 @@ module _ (xs : List Float) (h : noZero xs ≡ true) (k : some xs ≡ true) where
       go (x ∷ l) true e = omega arith
       go (x ∷ l) false e = omega arith
 
-pub dashes-as-source : (intervals : List Float) (phase : Float) (ps : List Vec2) (es : List ℕ) → sourceDecides intervals phase ps es ≡ true → dashes intervals phase ps es ≡ sourceDashes intervals phase ps es
+dashes-as-source : (intervals : List Float) (phase : Float) (ps : List Vec2) (es : List ℕ) → sourceDecides intervals phase ps es ≡ true → dashes intervals phase ps es ≡ sourceDashes intervals phase ps es
 dashes-as-source intervals phase ps es h =
     let met = exactAny (cycleOf intervals) (sourceStart intervals phase) (polylines 0 ps es) in
     let p = first (some intervals && noZero intervals) (not met) h in
@@ -64,3 +66,14 @@ dashes-as-source intervals phase ps es h =
     let s = first (some intervals) (noZero intervals) p in
     all-as-source (cycleOf intervals) (cycle-no-zero intervals z s) (cycle-even intervals z s) (cycle-some intervals z s) phase (period intervals) (polylines 0 ps es)
     (not-true met (second (some intervals && noZero intervals) (not met) h))
+
+pub zeros-and-corners : (intervals : List Float) (phase : Float) → ZerosAndCorners intervals phase
+zeros-and-corners intervals phase =
+    let cs = cycleOf intervals in
+    record {
+      zeros-alone = λ h tolerance. zeros-alone intervals h phase tolerance;
+      start-above = λ k l h. start-above cs k l h phase (period intervals);
+      next-above = λ k l h i. next-above cs k l h i;
+      no-dash = λ h ps es. nothing-drawn cs h phase (period intervals) (polylines 0 ps es);
+      as-source = dashes-as-source intervals phase;
+    }

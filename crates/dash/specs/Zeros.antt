@@ -1,0 +1,38 @@
+-- Zeros and corners in a pattern (W6): what holds of every pattern, and where the source still decides. Definitions only.
+use mathlib.Core.Path.{_≡_}
+use mathlib.Core.Bool.{Bool, true, false, not, _&&_}
+use mathlib.Core.List.{List, []}
+use Prim.Native.Nat.{ℕ, _<_}
+use lib.ListN.{length}
+use lib.Ieee.{Float}
+use Rattle.vec2.specs.declared.Vec2.{Vec2}
+use Rattle.path.specs.declared.Segment.{Segment}
+use Rattle.flatten.specs.Polylines.{polylines}
+use Rattle.pattern.specs.Cycle.{some, cycleOf, period, AllZero, cuts}
+use Rattle.events.specs.declared.Pos.{Pos}
+use Rattle.events.specs.Zeros.{zeroAt, next, gapsOnly}
+use Rattle.events.specs.Phase.{startOf}
+use Rattle.events.specs.Source.{startOf as sourceStartOf, walkAll as sourceWalkAll, noZero, exactAny}
+use Rattle.dash.specs.Dash.{dashes}
+
+abbrev pub sourceStart : List Float → Float → Pos
+sourceStart intervals phase = sourceStartOf (cycleOf intervals) phase (period intervals)
+
+-- the dashes by the source's walk, of points ps that end at es
+abbrev pub sourceDashes : List Float → Float → List Vec2 → List ℕ → List Segment
+sourceDashes intervals phase ps es = sourceWalkAll (cycleOf intervals) (sourceStart intervals phase) (polylines 0 ps es)
+
+-- no interval is 0, and in the source's walk no walked segment begins with exactly nothing left
+abbrev pub sourceDecides : List Float → Float → List Vec2 → List ℕ → Bool
+sourceDecides intervals phase ps es = (some intervals && noZero intervals) && not (exactAny (cycleOf intervals) (sourceStart intervals phase) (polylines 0 ps es))
+
+pub record ZerosAndCorners (intervals : List Float) (phase : Float) : Type 0 where
+  -- zeros alone give Whole, whatever the tolerance
+  pub zeros-alone : AllZero intervals → (tolerance : Float) → cuts intervals phase tolerance ≡ false
+  -- where one interval is not 0, the walk begins in none that is 0 and turns to none
+  pub start-above : (k : ℕ) → k < length (cycleOf intervals) → zeroAt (cycleOf intervals) k ≡ false → zeroAt (cycleOf intervals) (startOf (cycleOf intervals) phase (period intervals) .index) ≡ false
+  pub next-above : (k : ℕ) → k < length (cycleOf intervals) → zeroAt (cycleOf intervals) k ≡ false → (i : ℕ) → zeroAt (cycleOf intervals) (next (cycleOf intervals) i) ≡ false
+  -- no drawn interval is above 0: nothing is drawn, whatever is walked
+  pub no-dash : gapsOnly (cycleOf intervals) ≡ true → (ps : List Vec2) (es : List ℕ) → dashes intervals phase ps es ≡ []
+  -- where the source decides the dashes are its own
+  pub as-source : (ps : List Vec2) (es : List ℕ) → sourceDecides intervals phase ps es ≡ true → dashes intervals phase ps es ≡ sourceDashes intervals phase ps es
