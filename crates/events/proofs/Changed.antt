@@ -35,11 +35,16 @@ meets cs phase period ps = source.exact cs (source.startOf cs phase period) ps �
 abbrev minus0 : Float
 minus0 = ofBits binary32 0x8000_0000
 
+abbrev short : Float
+short = ofBits binary32 0x3080_0000
+
 abbrev corner : List Vec2
 corner = at 0 0 ∷ at 2 0 ∷ at 2 4 ∷ []
 
 pub record Changed : Type 0 where
   pub none-drawn : walked (whole 0 ∷ whole 5 ∷ []) f0 (whole 5) (at 0 0 ∷ at 8 0 ∷ []) ≡ []
+  -- and the source is not asked
+  pub not-source : source.noZero (whole 0 ∷ whole 5 ∷ []) ≡ false
   pub gaps-only : gapsOnly (whole 0 ∷ whole 5 ∷ minus0 ∷ whole 0 ∷ []) ≡ true
   pub corner-2-1 : walked (whole 2 ∷ whole 1 ∷ []) f0 (whole 3) corner ≡ Move (at 0 0) ∷ Line (at 2 0) ∷ Move (at 2 1) ∷ Line (at 2 3) ∷ []
   -- the source's dash runs on there, and it is a corner with exactly nothing left
@@ -53,10 +58,14 @@ pub record Changed : Type 0 where
   pub zero-drawn : walked (whole 3 ∷ whole 1 ∷ whole 0 ∷ whole 1 ∷ []) f0 (whole 5) (at 0 0 ∷ at 8 0 ∷ []) ≡ Move (at 0 0) ∷ Line (at 3 0) ∷ Move (at 5 0) ∷ Line (at 8 0) ∷ []
   -- zeros are passed over while the phase is placed; the first point is computed there, at 0 / 8
   pub phase-past-zeros : walked (minus0 ∷ whole 0 ∷ whole 2 ∷ whole 1 ∷ []) (whole 1) (whole 3) (at 0 0 ∷ at 8 0 ∷ []) ≡ Move (at 0 0) ∷ Line (at 1 0) ∷ Move (at 2 0) ∷ Line (at 4 0) ∷ Move (at 5 0) ∷ Line (at 7 0) ∷ []
+  -- and while it runs down: a dash of 1 is used up, the gap of 0 passed over, and 1 of 2 is left
+  pub phase-over-zero : walked (whole 1 ∷ whole 0 ∷ whole 2 ∷ whole 1 ∷ []) (whole 2) (whole 4) (at 0 0 ∷ at 5 0 ∷ []) ≡ Move (at 0 0) ∷ Line (at 1 0) ∷ Move (at 2 0) ∷ Line (at 3 0) ∷ Move (at 3 0) ∷ Line (at 5 0) ∷ []
   -- a gap ends at a corner; the next dash begins at the corner, copied with its −0
   pub copied : walked (whole 2 ∷ whole 1 ∷ []) f0 (whole 3) (at 3 0 ∷ vec minus0 f0 ∷ at 0 2 ∷ []) ≡ Move (at 3 0) ∷ Line (at 1 0) ∷ Move (vec minus0 f0) ∷ Line (at 0 2) ∷ []
   -- a segment that is passed over stands between: the next walked one's own first point
   pub jump : walked (whole 2 ∷ whole 0 ∷ []) f0 (whole 2) (at 0 0 ∷ at 2 0 ∷ vec (inf false) f0 ∷ at 5 0 ∷ at 5 2 ∷ []) ≡ Move (at 0 0) ∷ Line (at 2 0) ∷ Move (at 5 0) ∷ Line (at 5 2) ∷ []
+  -- less than nothing left is not exactly nothing: a gap of 2 ^ -30 behind a dash of 3 does not move the position, and runs on, as in the source
+  pub less-left : walked (whole 3 ∷ short ∷ []) f0 (whole 3) (at 0 0 ∷ at 8 0 ∷ at 8 4 ∷ []) ≡ Move (at 0 0) ∷ Line (at 3 0) ∷ []
   -- nothing left at the start: 1e8 1 1e8 1 at phase 1.5e8, where 1 no longer lowers what remains
   pub start : walked (whole 100000000 ∷ whole 1 ∷ whole 100000000 ∷ whole 1 ∷ []) (whole 150000000) (whole 200000000) (at 0 0 ∷ at 8 0 ∷ []) ≡ Move (at 0 0) ∷ Line (at 8 0) ∷ []
 
@@ -65,6 +74,7 @@ unfolding above walkFrom cutFrom source.walkFrom source.cutFrom source.exactFrom
 changed =
     record {
       none-drawn = refl;
+      not-source = refl;
       gaps-only = refl;
       corner-2-1 = refl;
       runs-on = refl;
@@ -74,7 +84,9 @@ changed =
       zeros-in-a-row = refl;
       zero-drawn = refl;
       phase-past-zeros = refl;
+      phase-over-zero = refl;
       copied = refl;
       jump = refl;
+      less-left = refl;
       start = refl;
     }
