@@ -174,7 +174,8 @@ typedef struct {
 
 enum { HZ_WHOLE = 0, HZ_CUT = 1, HZ_REFUSED = 2 };
 
-/* What a dashing answers. Whole: draw the path itself; no buffer was touched. Cut: the counts below. All counts are 0 unless cut. */
+/* What a dashing answers. Whole: draw the path itself; no buffer was touched. Cut: the counts below; with 0 verbs nothing is drawn. All counts are 0
+ * unless cut. */
 typedef struct {
     size_t verbs;             /* verbs in the dash buffer */
     size_t points;            /* points in the dash buffer */
@@ -275,14 +276,20 @@ HzVerdict hz_polygon_convexity(const float *points, size_t points_len);
 
 /* ---- dashing */
 
-/* Whether a pattern can be walked: at least one interval, each finite and >= 0, with a sum > 0, and a finite phase. */
+/* Whether a pattern can be walked: at least one interval, each finite and >= 0, with a sum > 0, and a finite phase. Zeros alone cannot, so that a path
+ * is drawn whole with them at every tolerance. */
 bool hz_is_usable(const float *intervals, size_t intervals_len, float phase);
 
 /* The intervals of a line style, 0 to HZ_MAX_STYLE. Style 0 has none: a path is drawn whole with it. */
 HzLineStyle hz_line_style(size_t number);
 
-/* Cuts a path into the drawn runs of a pattern. The path is flattened into `scratch`, `ends` and `marks`, as by hz_flatten, and the runs, moves and
- * lines, go to the dash buffers. Runs have no marks: none is closed. `rule` is the path's fill rule. */
+/* Cuts a path into the drawn runs of a pattern, whose intervals are a dash, a gap, a dash and so on, an odd number of them laid twice. The path is
+ * flattened into `scratch`, `ends` and `marks`, as by hz_flatten, and the runs, moves and lines, go to the dash buffers. Runs have no marks: none is
+ * closed. `rule` is the path's fill rule.
+ *
+ * An interval of 0 (-0 too) is passed over: a dash of 0 draws nothing, a gap of 0 still begins a new run. Where no dash is above 0, as in 0 5, a cut
+ * has 0 verbs; the scratch holds the polylines all the same. An interval of which exactly nothing is left at a corner, or at a polyline's start, ends
+ * there, and the next one begins at the next walked segment's first point, copied; the segments that are walked are those with a finite length > 0. */
 HzDashed hz_dash_path(const uint8_t *verbs, size_t verbs_len, const float *points, size_t points_len, uint8_t rule, const float *intervals,
                       size_t intervals_len, float phase, float tolerance, float *scratch, size_t scratch_len, size_t *ends, size_t ends_len,
                       uint8_t *marks, size_t marks_len, uint8_t *dash_verbs, size_t dash_verbs_len, float *dash_points, size_t dash_points_len);

@@ -7,7 +7,8 @@ use crate::refusal::Refusal;
 /// The most intervals of a pattern.
 pub const MAX_INTERVALS: usize = 64;
 
-/// A dash pattern: lengths that alternate drawn and skipped, starting drawn, and how far into the pattern a polyline starts.
+/// A dash pattern: lengths that alternate drawn and skipped, starting drawn, an odd number of them laid twice, and how far into the pattern a polyline
+/// starts. A length of 0 (−0 too) is passed over: a dash of 0 draws nothing, a gap of 0 still begins a new run.
 #[derive(Debug, Clone, PartialEq)]
 pub struct Dash {
     pub intervals: Vec<f32>,
@@ -19,13 +20,15 @@ impl Dash {
         Dash { intervals, phase }
     }
 
-    /// Whether this pattern can be walked: intervals finite and 0 or more, at least one, with a sum above 0, and a finite phase.
+    /// Whether this pattern can be walked: intervals finite and 0 or more, at least one, with a sum above 0, and a finite phase. Zeros alone cannot, so
+    /// that a path is drawn whole with them at every tolerance.
     ///
     /// ```
     /// use hizlaou::Dash;
     /// assert!(Dash::new(vec![2.0, 1.0], 0.0).is_usable());
     /// assert!(!Dash::new(vec![], 0.0).is_usable());
     /// assert!(!Dash::new(vec![2.0, -1.0], 0.0).is_usable());
+    /// assert!(!Dash::new(vec![0.0, 0.0], 0.0).is_usable());
     /// ```
     pub fn is_usable(&self) -> bool {
         // SAFETY: the intervals are only read.
@@ -40,8 +43,8 @@ impl Dash {
 pub enum Dashed {
     /// The pattern doesn't cut: the path is drawn as it is.
     Whole,
-    /// The drawn runs as a path of moves and lines, with the path's fill rule and no note, and the polylines that were walked, with their marks. Runs
-    /// have no marks: none is closed.
+    /// The drawn runs as a path of moves and lines, with the path's fill rule and no note, and the path's polylines, with their marks. Runs have no
+    /// marks: none is closed. Where no dash of the pattern is above 0 the runs are an empty path: nothing is drawn.
     Cut { path: Path, polylines: Polylines },
 }
 
@@ -66,6 +69,9 @@ impl Dashed {
 
 /// Cuts a path into the drawn pieces of a pattern. Refused with 8 over 64 intervals, with 3 over 65,536 verbs of dashes.
 ///
+/// An interval of which exactly nothing is left at a corner, or at a polyline's start, ends there, and the next one begins at the next walked segment's
+/// first point, copied. The segments that are walked are those with a finite length above 0.
+///
 /// ```
 /// # fn main() -> Result<(), hizlaou::Refusal> {
 /// use hizlaou::{dash_path, Dash, Dashed, PathBuilder, Vec2};
@@ -76,6 +82,21 @@ impl Dashed {
 /// let xs: Vec<f32> = path.points().iter().map(|p| p.x).collect();
 /// assert_eq!(xs, [0.0, 2.0, 3.0, 5.0, 6.0, 8.0]);
 /// assert_eq!(dash_path(&line, &Dash::new(vec![0.125, 0.125], 0.0), 0.25)?, Dashed::Whole);
+/// # Ok(()) }
+/// ```
+///
+/// A dash that ends exactly at a corner, and a pattern whose only dash is 0:
+///
+/// ```
+/// # fn main() -> Result<(), hizlaou::Refusal> {
+/// use hizlaou::{dash_path, Dash, Dashed, PathBuilder, Vec2};
+/// let mut b = PathBuilder::new();
+/// b.move_to(Vec2::ZERO)?.line_to(Vec2::new(2.0, 0.0))?.line_to(Vec2::new(2.0, 4.0))?;
+/// let hook = b.build();
+/// let Dashed::Cut { path, .. } = dash_path(&hook, &Dash::new(vec![2.0, 1.0], 0.0), 0.25)? else { panic!() };
+/// assert_eq!(path.points(), [(0.0, 0.0), (2.0, 0.0), (2.0, 1.0), (2.0, 3.0)].map(Vec2::from));
+/// let Dashed::Cut { path, .. } = dash_path(&hook, &Dash::new(vec![0.0, 5.0], 0.0), 0.25)? else { panic!() };
+/// assert!(path.is_empty());
 /// # Ok(()) }
 /// ```
 pub fn dash_path(path: &Path, dash: &Dash, tolerance: f32) -> Result<Dashed, Refusal> {
