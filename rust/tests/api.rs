@@ -104,9 +104,7 @@ fn a_curve_after_a_close_starts_at_the_moves_point() -> Checked {
 fn dashes() -> Checked {
     let line = [(0., 0.), (8., 0.)];
     assert_eq!(runs(&line, &[5.])?, [(M, p(0., 0.)), (L, p(5., 0.))]);
-    assert_eq!(runs(&line, &[0., 5.])?, [(M, p(0., 0.)), (L, p(8., 0.))]);
     assert_eq!(runs(&[(0., 0.), (4., 0.), (4., 4.)], &[6., 2.])?, [(M, p(0., 0.)), (L, p(4., 0.)), (L, p(4., 2.))]);
-    assert_eq!(runs(&[(0., 0.), (2., 0.), (2., 4.)], &[2., 1.])?, [(M, p(0., 0.)), (L, p(2., 0.)), (L, p(2., 4.))]);
     assert_eq!(runs(&line, &[0.125, 0.125])?, []);
     assert!(!runs(&line, &[0.125, 0.25])?.is_empty());
     Ok(())
