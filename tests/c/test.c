@@ -524,6 +524,108 @@ static void dashing(void) {
     CHECK(hz_line_style(9).refused == HZ_NO_STYLE && hz_line_style(SIZE_MAX).refused == HZ_NO_STYLE);
 }
 
+enum { ZERO_POINTS = 5, ZERO_VERBS = 6 };
+
+/* A polyline, a pattern, and what is drawn: each verb as a letter, with its point. */
+typedef struct {
+    const char *name;
+    size_t points, intervals;
+    float at[2 * ZERO_POINTS], pattern[6], phase;
+    const char *letters;
+    float drawn[2 * ZERO_VERBS];
+} ZeroCase;
+
+/* All that a dashing of one polyline can write to. */
+typedef struct {
+    size_t end;
+    float scratch[2 * ZERO_POINTS], drawn[2 * ZERO_VERBS];
+    uint8_t mark, laid[ZERO_VERBS];
+} ZeroRoom;
+
+static const uint8_t polyline[ZERO_POINTS] = {HZ_MOVE, HZ_LINE, HZ_LINE, HZ_LINE, HZ_LINE};
+
+/* Dashes with room for all points but so many, and for so many verbs and points of dashes. */
+static HzDashed dash_zeros(const ZeroCase *c, ZeroRoom *r, float tolerance, size_t less, size_t verbs, size_t points) {
+    memset(r, 0xa5, sizeof *r);
+    return hz_dash_path(polyline, c->points, c->at, 2 * c->points, 0, c->pattern, c->intervals, c->phase, tolerance, r->scratch,
+                        2 * (c->points - less), &r->end, 1, &r->mark, 1, r->laid, verbs, r->drawn, 2 * points);
+}
+
+/* Whether the scratch has the polyline, and the dash buffers so many of the verbs and points that are wanted, by their bits, and no more. */
+static int holds(const ZeroCase *c, const ZeroRoom *r, size_t verbs) {
+    for (size_t i = 0; i < verbs; i++) {
+        if (r->laid[i] != (c->letters[i] == 'M' ? HZ_MOVE : HZ_LINE)) return 0;
+    }
+    return memcmp(r->scratch, c->at, 2 * c->points * sizeof(float)) == 0 && r->end == c->points && r->mark == HZ_OPEN &&
+           memcmp(r->drawn, c->drawn, 2 * verbs * sizeof(float)) == 0 && untouched(r->laid + verbs, ZERO_VERBS - verbs) &&
+           untouched(r->drawn + 2 * verbs, (ZERO_VERBS - verbs) * 2 * sizeof(float));
+}
+
+/* Buffers that are exactly full, and one verb, one point or one point of scratch too short. */
+static void zero_case(const ZeroCase *c) {
+    size_t n = strlen(c->letters);
+    ZeroRoom r;
+    HzDashed d = dash_zeros(c, &r, 0.25f, 0, n, n);
+    check(d.refused == HZ_OK && d.kind == HZ_CUT && d.verbs == n && d.points == n, c->name, __LINE__);
+    check(d.scratch == c->points && d.polylines == 1 && holds(c, &r, n), c->name, __LINE__);
+    check(uncut(dash_zeros(c, &r, 0.25f, 1, n, n), HZ_REFUSED, HZ_OUTPUT_FULL) && untouched(&r, sizeof r), c->name, __LINE__);
+    if (n == 0) return;
+    check(uncut(dash_zeros(c, &r, 0.25f, 0, n - 1, n), HZ_REFUSED, HZ_OUTPUT_FULL) && holds(c, &r, 0), c->name, __LINE__);
+    check(uncut(dash_zeros(c, &r, 0.25f, 0, n, n - 1), HZ_REFUSED, HZ_OUTPUT_FULL) && holds(c, &r, 0), c->name, __LINE__);
+}
+
+/* Zeros are passed over, and what is used up exactly at a corner ends there. The next interval begins at the next walked segment's first point,
+ * copied: -0 stays. */
+static void zeros_and_corners(void) {
+    static const ZeroCase cases[] = {
+        {"no dash above 0", 2, 2, {0, 0, 8, 0}, {0, 5}, 0, "", {0}},
+        {"no dash above -0", 2, 2, {0, 0, 8, 0}, {-0.0f, 5}, 1, "", {0}},
+        {"a dash ends at a corner", 3, 2, {0, 0, 2, 0, 2, 4}, {2, 1}, 0, "MLML", {0, 0, 2, 0, 2, 1, 2, 3}},
+        {"a gap ends at a corner", 3, 2, {0, 0, 2, 0, 2, 4}, {1, 1}, 0, "MLMLML", {0, 0, 1, 0, 2, 0, 2, 1, 2, 2, 2, 3}},
+        {"three zeros in a row", 2, 6, {0, 0, 8, 0}, {3, 0, 0, 0, 4, 1}, 0, "MLML", {0, 0, 3, 0, 3, 0, 7, 0}},
+        {"a phase at zeros", 2, 6, {0, 0, 8, 0}, {3, -0.0f, 0, -0.0f, 4, 1}, 3, "MLML", {0, 0, 4, 0, 5, 0, 8, 0}},
+        {"a phase behind zeros", 2, 6, {0, 0, 8, 0}, {3, 0, 0, 0, 4, 1}, 4, "MLMLML", {0, 0, 3, 0, 4, 0, 7, 0, 7, 0, 8, 0}},
+        {"a dash of 0 between gaps", 2, 4, {0, 0, 8, 0}, {3, 1, 0, 1}, 0, "MLML", {0, 0, 3, 0, 5, 0, 8, 0}},
+        {"an odd pattern", 2, 3, {0, 0, 8, 0}, {0, 5, 0}, 0, "ML", {5, 0, 8, 0}},
+        {"a gap of 0 at a corner", 3, 2, {0, 0, 2, 0, 2, 4}, {2, 0}, 0, "MLMLML", {0, 0, 2, 0, 2, 0, 2, 2, 2, 2, 2, 4}},
+        {"a dash of 0 at a corner", 3, 4, {0, 0, 2, 0, 2, 4}, {1, 1, 0, 1}, 0, "MLML", {0, 0, 1, 0, 2, 1, 2, 2}},
+        {"-0 at a corner", 3, 2, {3, 0, -0.0f, 0, 0, 2}, {2, 1}, 0, "MLML", {3, 0, 1, 0, -0.0f, 0, 0, 2}},
+        {"segments not walked", 5, 2, {0, 0, 2, 0, INFINITY, 0, 5, 0, 5, 2}, {2, 0}, 0, "MLML", {0, 0, 2, 0, 5, 0, 5, 2}},
+        {"the last corner", 3, 2, {0, 0, 2, 0, 2, 0}, {2, 0}, 0, "ML", {0, 0, 2, 0}},
+        /* 5e7 - 1 is 5e7, so that the phase is placed no further, and nothing is left of the 1 */
+        {"nothing left at the start", 2, 4, {-0.0f, 0, 8, 0}, {1e8f, 1, 1e8f, 1}, 1.5e8f, "ML", {-0.0f, 0, 8, 0}},
+        /* the first point is computed there */
+        {"zeros at the start copy no point", 2, 4, {-0.0f, 0, 8, 0}, {0, 0, 9, 1}, 0, "ML", {0, 0, 8, 0}},
+        {"zeros at a phase copy no point", 2, 4, {-0.0f, 0, 8, 0}, {3, 0, 9, 1}, 3, "ML", {0, 0, 8, 0}},
+        /* a dash too short to move on leaves less than nothing at the corner, which is not exactly nothing */
+        {"less than nothing left", 3, 4, {0, 0, 8, 0, 8, 8}, {2, 1, 1e-9f, 1}, 0, "MLMLL", {0, 0, 2, 0, 3, 0, 8, 0, 8, 8}},
+    };
+    for (size_t i = 0; i < sizeof cases / sizeof *cases; i++) zero_case(&cases[i]);
+}
+
+/* With gaps alone nothing is drawn, at once however long the way is, and no dash buffer is needed. Zeros alone are whole at every tolerance. */
+static void gaps_or_zeros_alone(void) {
+    ZeroCase c = {"gaps or zeros alone", 3, 2, {0, 0, 1e6f, 0, 1e6f, 1e6f}, {0, 0.001f}, 0, "", {0}};
+    ZeroRoom r;
+    for (size_t room = 0; room <= 2; room++) {
+        HzDashed d = dash_zeros(&c, &r, -1, 0, room, room);
+        CHECK(d.refused == HZ_OK && d.kind == HZ_CUT && d.verbs == 0 && d.points == 0 && d.scratch == 3 && d.polylines == 1 && holds(&c, &r, 0));
+        HzOutline o = hz_drawn_outline(c.at, 6, 3, r.drawn, 2 * room, d);
+        CHECK(o.from_dash == 1 && o.floats == 0);
+    }
+    CHECK(uncut(dash_zeros(&c, &r, -1, 1, 2, 2), HZ_REFUSED, HZ_OUTPUT_FULL) && untouched(&r, sizeof r));
+    /* the tolerance is asked first */
+    CHECK(uncut(dash_zeros(&c, &r, 0.25f, 0, 0, 0), HZ_WHOLE, HZ_OK) && untouched(&r, sizeof r));
+    static const float tolerances[] = {0.25f, 0, -1, -INFINITY, INFINITY, NAN};
+    c.pattern[1] = -0.0f;
+    for (c.intervals = 1; c.intervals <= 6; c.intervals++) {
+        CHECK(!hz_is_usable(c.pattern, c.intervals, 0));
+        for (size_t i = 0; i < sizeof tolerances / sizeof *tolerances; i++) {
+            CHECK(uncut(dash_zeros(&c, &r, tolerances[i], 3, 0, 0), HZ_WHOLE, HZ_OK) && untouched(&r, sizeof r));
+        }
+    }
+}
+
 /* A played list leaves what its calls leave one by one; a refused call counts as not made; the list ends early at a byte that is no kind. */
 static void replayed(void) {
     Built b, c;
@@ -558,6 +660,8 @@ int main(void) {
     marks_in_dashes();
     questions();
     dashing();
+    zeros_and_corners();
+    gaps_or_zeros_alone();
     printf("C interface: %d checks passed, %d failed\n", passed, failed);
     return failed != 0;
 }
