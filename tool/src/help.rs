@@ -46,7 +46,8 @@ OPTIONS
   --scale S        shown S times as large: the tolerance used is T / S
   --style N        a line style. 0: none; 1: 12 6; 2: 6 6; 3: 2 4; 4: 12 4 2 4;
                    5: 12 4 2 4 2 4; 6: 8; 7: 4 2 1; 8: 24 8 (default 0)
-  --pattern "A B"  lengths drawn, skipped, drawn, ...: at most 64; an odd list is laid twice
+  --pattern "A B"  lengths drawn, skipped, drawn, ...: at most 64; an odd list is laid twice;
+                   0 is passed over: drawn it draws nothing, skipped it begins a new run
   --phase P        how far into the pattern each polyline starts (default 0)
   --rule R         fill rule, nonzero (default) or evenodd
   --json           JSON instead of text
@@ -69,8 +70,9 @@ PATH DATA
 LOUD WARNINGS, on standard error and on the picture
   DRAWN WHOLE     the pattern doesn't cut (no intervals, or the period is not over the
                   tolerance, ...): the lane goes to air as one unbroken line
-  A DASH RUNS ON  an interval used up exactly at a corner never ends: the rest of that
-                  polyline is one dash. Another phase or pattern avoids it
+  NOTHING DRAWN   no dash of the pattern is above 0, as in 0 5 (--refuse-whole lets it pass)
+  A DASH RUNS ON  an interval too short to move the position along its segment never ends:
+                  the rest of that polyline is one dash. A longer interval, or 0, avoids it
   A GAP RUNS ON   the same in a gap: nothing more of that polyline is drawn
                   (--refuse-whole lets it pass)
   FACETED         curves that want more than 1000 pieces are held back there, and look

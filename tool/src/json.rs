@@ -4,7 +4,7 @@ use crate::held::Held;
 use crate::number::Json;
 use crate::order::{rule_name, Order};
 use crate::text::{letter, runs_of};
-use crate::walk::{Found, Place, RunOn};
+use crate::walk::{Found, RunOn};
 use hizlaou::{Convexity, Path, Polylines, Rect, Refusal, Vec2};
 use std::fmt::Display;
 use std::io::{self, Write};
@@ -172,13 +172,8 @@ pub fn runs(dashes: &Path) -> impl Iterator<Item = &[Vec2]> {
 }
 
 fn run_on(r: &RunOn) -> String {
-    let place = match r.place {
-        Place::Start => "start",
-        Place::Corner => "corner",
-        Place::Inside => "inside",
-    };
     format!(
-        "{{\"polyline\":{},\"place\":\"{place}\",\"at\":{},\"kind\":\"{}\",\"length\":{}}}",
+        "{{\"polyline\":{},\"at\":{},\"kind\":\"{}\",\"length\":{}}}",
         r.polyline + 1,
         point(r.at),
         if r.is_dash { "dash" } else { "gap" },

@@ -5,6 +5,7 @@ use crate::number::{count, Exact};
 use crate::order::rule_name;
 use crate::picture::{xml, Scene, HELD, MARGIN, MOST_MARKS, WIDTH};
 use crate::text::runs_of;
+use crate::warnings::NO_DASH;
 use std::fmt::Write;
 
 const ROW: f64 = 26.0;
@@ -107,11 +108,11 @@ fn notes(scene: &Scene, fit: &Fit) -> Vec<String> {
         notes.push(format!("Of every {} flattened points one is shown.", scene.dot_step));
     }
     let period = f64::from(scene.order.period()) * fit.scale;
-    if matches!(scene.answer, Answer::Cut { .. }) && period < FINE && !scene.polylines.is_empty() {
-        notes.push(format!("A period is {period:.2} pixels here: zoom in to see the gaps."));
-    }
-    if scene.polylines.is_empty() {
-        notes.push("Nothing is drawn: the outline has no line and no curve.".into());
+    match scene.answer {
+        _ if scene.polylines.is_empty() => notes.push("Nothing is drawn: the outline has no line and no curve.".into()),
+        Answer::Cut { found, .. } if found.is_without_dash() => notes.push(format!("Nothing is drawn: {NO_DASH}.")),
+        Answer::Cut { .. } if period < FINE => notes.push(format!("A period is {period:.2} pixels here: zoom in to see the gaps.")),
+        _ => (),
     }
     notes
 }

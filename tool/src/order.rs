@@ -123,7 +123,7 @@ mod tests {
         b.move_to(Vec2::ZERO).unwrap().line_to(Vec2::new(1.0, 0.0)).unwrap();
         let path = b.build();
         let lengths = [0.0, -0.0, 0.1, 0.125, 0.25, 1.0, -1.0, f32::MAX, f32::INFINITY, f32::NAN];
-        let tolerances = [0.25, 0.0, -1.0, f32::NAN, f32::INFINITY, 0.5];
+        let tolerances = [0.25, 0.0, -1.0, f32::NAN, f32::INFINITY, f32::NEG_INFINITY, 0.5];
         for a in lengths {
             for b in lengths {
                 for tolerance in tolerances {

@@ -4,6 +4,7 @@ use crate::held::Held;
 use crate::number::{count, Exact};
 use crate::order::{rule_name, Order};
 use crate::walk::Found;
+use crate::warnings::NO_DASH;
 use hizlaou::{Convexity, Path, Polylines, Rect, Vec2, Verb};
 use std::io::{self, Write};
 
@@ -107,6 +108,9 @@ pub fn runs_of(dashes: &Path) -> usize {
 }
 
 fn cut(out: &mut dyn Write, dashes: &Path, polylines: &Polylines, found: &Found, held: &Held, progress: impl Fn(usize)) -> io::Result<()> {
+    if found.is_without_dash() {
+        writeln!(out, "nothing is drawn: {NO_DASH}")?;
+    }
     let mut number = 0;
     for (i, (verb, points)) in dashes.segments().enumerate() {
         if verb == Verb::MoveTo {

@@ -1,8 +1,11 @@
-//! The loud warnings: drawn whole, a dash or a gap that runs on, curves that look faceted.
+//! The loud warnings: drawn whole, nothing drawn, a dash or a gap that runs on, curves that look faceted.
 use crate::answer::Answer;
 use crate::held::{which, Held};
 use crate::number::{count, place, Exact};
-use crate::walk::{Place, RunOn};
+use crate::walk::RunOn;
+
+/// Why nothing is drawn of a pattern such as 0 5.
+pub const NO_DASH: &str = "no dash is above 0";
 
 /// The most run-ons, and the most curves held back, that are told one by one.
 const MOST: usize = 10;
@@ -35,6 +38,10 @@ pub fn unbroken(answer: &Answer) -> Vec<Warning> {
             let headline = "NOT CHECKED: whether a dash runs on could not be found out".into();
             let reason = "the walk made again does not lay the library's dashes; report it".into();
             vec![Warning { headline, reason, is_barrier: true }]
+        }
+        Answer::Cut { found, .. } if found.is_without_dash() => {
+            let headline = "NOTHING DRAWN: the lane does not go to air".into();
+            vec![Warning { headline, reason: NO_DASH.into(), is_barrier: false }]
         }
         Answer::Cut { found, .. } => {
             let (dashes, gaps): (Vec<&RunOn>, Vec<&RunOn>) = found.run_ons.iter().partition(|r| r.is_dash);
@@ -71,12 +78,8 @@ pub fn faceted(held: &Held) -> Option<Warning> {
 }
 
 fn where_and_why(run_on: &RunOn) -> String {
-    let (from, why) = match run_on.place {
-        Place::Corner => ("from the corner", "the interval is used up exactly there and never ends"),
-        Place::Start => ("from the start", "nothing is left of the interval that it starts in, so it never ends"),
-        Place::Inside => ("from", "the interval is too short to move on and never ends"),
-    };
-    format!("polyline {}, {from} {} on, {} long: {why}", run_on.polyline + 1, place(run_on.at), Exact(run_on.length as f32))
+    let why = "the interval is too short to move on and never ends";
+    format!("polyline {}, from {} on, {} long: {why}", run_on.polyline + 1, place(run_on.at), Exact(run_on.length as f32))
 }
 
 #[cfg(test)]
@@ -91,12 +94,22 @@ mod tests {
 
     #[test]
     fn dashes_come_before_gaps_and_many_are_counted() {
-        let place = |is_dash| RunOn { polyline: 0, place: Place::Inside, at: Vec2::ZERO, next: 1, is_dash, length: 2.5 };
-        let list = warnings(&cut(Found { run_ons: (0..24).map(|i| place(i % 2 == 1)).collect(), agrees: true }));
+        let place = |is_dash| RunOn { polyline: 0, at: Vec2::ZERO, next: 1, is_dash, length: 2.5 };
+        let list = warnings(&cut(Found { run_ons: (0..24).map(|i| place(i % 2 == 1)).collect(), has_dash: true, agrees: true }));
         assert_eq!((list.len(), list.iter().filter(|w| w.is_barrier).count()), (22, 11));
         assert_eq!(list[0].reason, "polyline 1, from (0 0) on, 2.5 long: the interval is too short to move on and never ends");
         assert_eq!(list[10].reason, "and 2 more places");
         assert!(list[11].headline.starts_with("A GAP RUNS ON"));
+    }
+
+    #[test]
+    fn nothing_drawn_is_loud_and_no_barrier() {
+        let answer = cut(Found { run_ons: Vec::new(), has_dash: false, agrees: true });
+        let headline = "NOTHING DRAWN: the lane does not go to air".into();
+        assert_eq!(warnings(&answer), [Warning { headline, reason: "no dash is above 0".into(), is_barrier: false }]);
+        assert!(!answer.is_barrier());
+        let not_met = cut(Found { run_ons: Vec::new(), has_dash: false, agrees: false });
+        assert!(warnings(&not_met)[0].headline.starts_with("NOT CHECKED") && not_met.is_barrier());
     }
 
     fn flattened(held: Held) -> Answer {

@@ -117,8 +117,9 @@ fn more_bands_than_are_drawn_are_counted() {
 
 #[test]
 fn among_many_warnings_the_picture_still_has_its_bar() {
-    let data = "M0 0H2V4".repeat(4) + "M0 0Q8 8 16 0";
-    let ran = ran(&["preview", "--pattern", "2 1"], "1e-6", &data);
+    // Far out an interval of 1e-6 is too short to move on. The curve ends before it is met.
+    let data = "M0 0H900".repeat(4) + "M0 0Q8 8 16 0";
+    let ran = ran(&["preview", "--pattern", "200 100 1e-6 100"], "1e-6", &data);
     assert_eq!((ran.err.matches("A DASH RUNS ON").count(), ran.out.matches("class=\"warning\"").count()), (4, 3));
     assert!(ran.out.contains(">FACETED: 1 curve ") && ran.out.contains(">and 2 more warnings, on standard error</text>"));
 }

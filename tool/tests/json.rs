@@ -149,6 +149,18 @@ fn runs_and_totals_of_a_dash() {
     assert_eq!(get(&answer, "kind"), &Value::Text("cut".into()));
     assert_eq!(get(get(&answer, "totals"), "runs"), &Value::Word("3".into()));
     assert_eq!(list(get(&answer, "run_ons")).len(), 0);
+    assert!(list(get(&read(&run(&["dash", "--json", "--pattern", "0 5", "-d", "M0 0H8"]).out), "runs")).is_empty());
+}
+
+#[test]
+fn what_runs_on_is_listed() {
+    for (pattern, kind) in [("2 1 1e-9 1", "dash"), ("3 1e-9", "gap")] {
+        let answer = read(&run(&["dash", "--json", "--pattern", pattern, "-d", "M9 9H10M0 0H8V4"]).out);
+        let expected = read(&format!("[{{\"polyline\":2,\"at\":[3,0],\"kind\":\"{kind}\",\"length\":9}}]\n"));
+        assert_eq!(get(&answer, "run_ons"), &expected);
+        let running_on = ["dashes_running_on", "gaps_running_on"].map(|name| float(get(get(&answer, "totals"), name)));
+        assert_eq!(running_on, if kind == "dash" { [1.0, 0.0] } else { [0.0, 1.0] });
+    }
 }
 
 #[test]

@@ -105,19 +105,55 @@ fn what_is_drawn_whole_has_a_reason() {
 
 #[test]
 fn what_runs_on_is_refused_if_it_is_a_dash() {
-    let dash = run(&["dash", "--refuse-whole", "--pattern", "2 1", "-d", "M0 0H2V4"]);
+    let dash = run(&["dash", "--refuse-whole", "--pattern", "2 1 1e-9 1", "-d", "M0 0H8V4"]);
     assert_eq!(dash.status, Some(1));
-    let place = "polyline 1, from the corner (2 0) on, 4 long: the interval is used up exactly there and never ends";
+    let place = "polyline 1, from (3 0) on, 9 long: the interval is too short to move on and never ends";
     assert!(dash.err.contains("WARNING: A DASH RUNS ON") && dash.err.contains(place), "{}", dash.err);
-    let start = run(&["dash", "--refuse-whole", "--pattern", "0 5", "-d", "M0 0H8"]);
-    assert_eq!(start.status, Some(1));
-    assert!(start.err.contains("polyline 1, from the start (0 0) on, 8 long"), "{}", start.err);
-    let gap = run(&["dash", "--refuse-whole", "--pattern", "1 1", "-d", "M0 0H2V4"]);
+    assert!(dash.out.ends_with("; 1 dash runs on, 0 gaps run on\n"), "{}", dash.out);
+    let gap = run(&["dash", "--refuse-whole", "--pattern", "2 1e-9", "-d", "M0 0H8V4"]);
     assert_eq!(gap.status, Some(0));
-    assert!(gap.err.contains("WARNING: A GAP RUNS ON"), "{}", gap.err);
-    let many = run(&["dash", "--pattern", "2 1", "-d", &"M0 0H2V4".repeat(13)]);
+    assert!(gap.err.contains("WARNING: A GAP RUNS ON") && gap.err.contains("from (2 0) on, 10 long"), "{}", gap.err);
+    assert!(gap.out.ends_with("; 0 dashes run on, 1 gap runs on\n"), "{}", gap.out);
+    let many = run(&["dash", "--pattern", "2 1 1e-9 1", "-d", &"M0 0H8".repeat(13)]);
     assert_eq!(many.err.matches("A DASH RUNS ON").count(), 11);
     assert!(many.err.contains("and 3 more places"));
+}
+
+#[test]
+fn what_is_used_up_at_a_corner_ends_there() {
+    let cases = [
+        ("2 1", "M0 0H2V4", "run 1:\n  0 0\n  2 0\nrun 2:\n  2 1\n  2 3\n"),
+        ("1 1", "M0 0H2V3", "run 1:\n  0 0\n  1 0\nrun 2:\n  2 0\n  2 1\nrun 3:\n  2 2\n  2 3\n"),
+        ("2 0", "M0 0H2V2", "run 1:\n  0 0\n  2 0\nrun 2:\n  2 0\n  2 2\n"),
+        ("2 1", "M3 0H-0L0 2", "run 1:\n  3 0\n  1 0\nrun 2:\n  -0.0 0\n  0 2\n"),
+    ];
+    for (pattern, data, runs) in cases {
+        let ran = run(&["dash", "--refuse-whole", "--pattern", pattern, "-d", data]);
+        assert_eq!((ran.status, ran.err.as_str()), (Some(0), ""), "{pattern} {data}");
+        assert!(ran.out.contains(&format!("rule nonzero\n{runs}totals: ")), "{}", ran.out);
+        assert!(ran.out.ends_with("; 0 dashes run on, 0 gaps run on\n"), "{}", ran.out);
+    }
+}
+
+#[test]
+fn a_pattern_without_a_dash_above_0_draws_nothing() {
+    for pattern in ["0 5", "0 0.001", "-0 1 0 2"] {
+        for data in ["M0 0H8", "M0 0H1e6V1e6", "M0 0Q8 8 16 0Z"] {
+            let ran = run(&["dash", "--refuse-whole", "--tolerance", "0.0005", "--pattern", pattern, "-d", data]);
+            assert_eq!(ran.status, Some(0));
+            let loud = "hizlaou: WARNING: NOTHING DRAWN: the lane does not go to air\nhizlaou:          no dash is above 0\n";
+            assert_eq!(ran.err, loud);
+            assert!(ran.out.contains("rule nonzero\nnothing is drawn: no dash is above 0\ntotals: 0 runs, 0 verbs, 0 points, from "), "{}", ran.out);
+        }
+    }
+    let picture = run(&["preview", "--pattern", "0 5", "-d", "M0 0H8"]).out;
+    assert!(
+        picture.contains(">NOTHING DRAWN: the lane does not go to air</text>") && picture.contains(">Nothing is drawn: no dash is above 0.</text>")
+    );
+    assert!(!picture.contains("class=\"runs\"") && !picture.contains("zoom in"));
+    // Zeros alone are no pattern.
+    let zeros = run(&["dash", "--tolerance", "-1", "--pattern", "0 0", "-d", "M0 0H8"]);
+    assert!(zeros.out.contains("drawn whole: the intervals add up to 0, which is not over 0\n") && !zeros.err.contains("NOTHING DRAWN"));
 }
 
 #[test]
