@@ -64,16 +64,32 @@ fn the_order_sheet_is_loud() {
 }
 
 #[test]
-fn the_score_board_without_a_phase_is_loud() {
-    let line = ["preview", "--style", "6", "--rule", "evenodd", "scoreboard.path"];
+fn the_score_board_with_dots_is_loud() {
+    let line = ["preview", "--pattern", "12 4 0.000001 4", "--phase", "3", "--rule", "evenodd", "scoreboard.path"];
     let ran = run(&line);
-    assert_eq!(ran.err.matches("WARNING: A DASH RUNS ON").count(), 4);
-    assert_eq!(ran.err.matches("WARNING: A GAP RUNS ON").count(), 3);
+    assert_eq!((ran.err.matches("WARNING: A DASH RUNS ON").count(), ran.err.matches("WARNING").count()), (5, 5));
     assert_eq!(ran.out.matches("class=\"warning\"").count(), 3);
-    assert_eq!(ran.out.matches("class=\"mark\"").count(), 7);
-    assert!(ran.out.contains("and 4 more warnings, on standard error"));
+    assert_eq!((ran.out.matches("class=\"mark\"").count(), ran.out.matches("class=\"runs-on\"").count()), (5, 5));
+    assert!(ran.out.contains("and 2 more warnings, on standard error"));
     assert_eq!(run(&[&line[..], &["--refuse-whole"]].concat()).status, Some(1));
-    assert_eq!(run(&[&line[..], &["--refuse-whole", "--phase", "3"]].concat()).status, Some(0));
+}
+
+#[test]
+fn a_gap_that_runs_on_is_marked() {
+    let ran = run(&["preview", "--pattern", "12 0.0000001", "--rule", "evenodd", "scoreboard.path"]);
+    assert_eq!(ran.err.matches("WARNING: A GAP RUNS ON").count(), 7);
+    assert_eq!((ran.out.matches("class=\"mark\"").count(), ran.out.matches("class=\"gap-on\"").count()), (7, 7));
+    assert!(ran.out.contains(">7 places where a gap runs on to the end</text>"));
+}
+
+/// Intervals are used up exactly at corners of each outline.
+#[test]
+fn the_score_board_is_quiet() {
+    for phase in ["0", "3"] {
+        let ran = run(&["preview", "--style", "6", "--phase", phase, "--rule", "evenodd", "--refuse-whole", "scoreboard.path"]);
+        assert_eq!((ran.status, ran.err.as_str()), (Some(0), ""));
+        assert!(!ran.out.contains("class=\"warning\"") && !ran.out.contains("class=\"mark\""));
+    }
 }
 
 #[test]
