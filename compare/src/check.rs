@@ -1,11 +1,12 @@
-//! One case through both sides: every answer and every buffer of the library against the Rust source, the numbers, and, for curves held back and for
-//! the marks of polylines, the requests.
+//! One case through both sides: every answer and every buffer of the library against the Rust source, the numbers, and, for curves held back, for the
+//! marks of polylines and for zeros and corners in dashing, the requests.
 use crate::case::{self, Call, Case, Point, Rng};
 use crate::reference::{apply, curve_count, passed_over, rule_of, subpaths, v2};
+use crate::zeros::{self, Judge, Judged, Pattern, Run};
 use crate::{held, marks, numbers};
 use hizlaou::ffi::{self, Builder};
 use hizlaou::{held_curves, SegmentCount, Vec2 as Pt};
-use source::dash::{dash_path, Dash};
+use source::dash::Dash;
 use source::flatten::{self as curves, flatten};
 use source::path::{polygon_convexity, Convexity, FillRule, Path, PathBuilder, Rect, Verb};
 use source::Vec2;
@@ -16,7 +17,7 @@ use std::sync::atomic::{AtomicU64, Ordering};
 pub type Differs = (String, String);
 type Checked = Result<(), Differs>;
 
-const KINDS: usize = 47;
+const KINDS: usize = 70;
 static SEEN: [AtomicU64; KINDS] = [const { AtomicU64::new(0) }; KINDS];
 const NAMES: [&str; KINDS] = [
     "",
@@ -66,6 +67,29 @@ const NAMES: [&str; KINDS] = [
     "3 for the dash buffers with marks left",
     "cut with marks left",
     "drawn whole with marks to leave alone",
+    "cut and judged by the source",
+    "cut and judged by W6 for a zero",
+    "of these unlike the source",
+    "cut and judged by W6 for nothing left at a corner or start without a zero",
+    "of these unlike the source",
+    "cut with a leading zero",
+    "with zeros in a row",
+    "with a −0",
+    "with every drawn interval zero",
+    "with every gap zero",
+    "with an odd pattern that holds a zero",
+    "zeros alone drawn whole",
+    "of these at a tolerance below zero or NaN",
+    "cut with a dash that ends on a corner",
+    "with a gap that does",
+    "with one of these and a zero in the pattern",
+    "with two dashes that meet on a corner",
+    "with segments not walked behind a corner that is met",
+    "with nothing left at a start",
+    "with that and a zero in the pattern",
+    "with a copied −0 that would be 0 if computed, or the other way",
+    "judged by W6 with just the dash buffers' room",
+    "3 for the dash buffers one short, judged by W6",
 ];
 /// The first of four: not held, held, and the same near the edge. For counts asked alone, and for the curves of accepted flattenings.
 const ASKED: usize = 16;
@@ -96,6 +120,33 @@ const SCRATCH_MARKS_3: usize = 43;
 const MARKS_SECOND_3: usize = 44;
 const MARKS_CUT: usize = 45;
 const MARKS_WHOLE: usize = 46;
+/// Who judges what is cut; each time the request does, whether the source gives something else.
+const BY_SOURCE: usize = 47;
+const BY_ZERO: usize = 48;
+const ZERO_UNLIKE: usize = 49;
+const BY_MET: usize = 50;
+const MET_UNLIKE: usize = 51;
+/// What patterns with zeros are like.
+const ZERO_LEADS: usize = 52;
+const ZEROS_IN_A_ROW: usize = 53;
+const MINUS_ZERO: usize = 54;
+const NO_DRAWN: usize = 55;
+const NO_GAP: usize = 56;
+const ZERO_ODD: usize = 57;
+const ZEROS_ALONE: usize = 58;
+const ZEROS_ALONE_BELOW: usize = 59;
+/// How segments begin with nothing left.
+const DASH_MET: usize = 60;
+const GAP_MET: usize = 61;
+const ZERO_MET: usize = 62;
+const RUNS_MET: usize = 63;
+const APART_MET: usize = 64;
+const START_MET: usize = 65;
+const ZERO_START_MET: usize = 66;
+const COPIED_ZERO: usize = 67;
+/// Room where the request judges.
+const W6_FULL: usize = 68;
+const W6_SHORT: usize = 69;
 
 fn seen(what: usize) {
     SEEN[what].fetch_add(1, Ordering::Relaxed);
@@ -117,6 +168,11 @@ fn seen_squared(first: usize, s: f32) {
 /// What the cases came to.
 pub fn counted() -> String {
     (1..KINDS).map(|i| format!("{} {}", NAMES[i], SEEN[i].load(Ordering::Relaxed))).collect::<Vec<_>>().join(", ")
+}
+
+/// Counts anew from here.
+pub fn forget() {
+    SEEN.iter().for_each(|n| n.store(0, Ordering::Relaxed));
 }
 
 fn equal<T: PartialEq + Debug>(question: &str, got: T, want: T) -> Checked {
@@ -747,8 +803,9 @@ struct Cut {
 }
 
 impl Cut {
-    fn of(path: &Path) -> Cut {
-        Cut { verbs: bytes(path), points: floats(path.points()).into_iter().map(|x| (x, true)).collect() }
+    fn of(runs: &[Run]) -> Cut {
+        let verbs = runs.iter().flat_map(|run| (0..run.len()).map(|i| u8::from(i > 0))).collect();
+        Cut { verbs, points: floats(runs.iter().flatten()).into_iter().map(|x| (x, true)).collect() }
     }
 }
 
@@ -812,9 +869,9 @@ impl Lent {
     }
 }
 
-/// Dashing into such a scratch and outputs of such lengths; `whole` and `cut` are what is right where nothing is refused.
-#[allow(clippy::too_many_arguments)]
-fn dashing(g: &Given, c: &Case, rule: u8, flat: Option<&Flat>, whole: bool, cut: Option<&Cut>, scratch: Room, dash_lens: (usize, usize)) -> Checked {
+/// Dashing into such a scratch and outputs of such lengths; `flat` and `cut` are what is right where nothing is refused, and where nothing is cut the
+/// path is drawn whole.
+fn dashing(g: &Given, c: &Case, rule: u8, flat: Option<&Flat>, cut: Option<&Cut>, scratch: Room, dash_lens: (usize, usize)) -> Checked {
     let mut lent = Lent::new(scratch, dash_lens);
     let got = lent.dash(g, c, rule);
     let mut number = if scratch.floats % 2 == 1 || dash_lens.0 % 2 == 1 { 1 } else { g.refusal() };
@@ -823,14 +880,13 @@ fn dashing(g: &Given, c: &Case, rule: u8, flat: Option<&Flat>, whole: bool, cut:
     }
     // Whole and every refusal carry no number.
     let mut want = ([0; 5], 0, 0);
+    if let (0, Some(f), None) = (number, flat, cut) {
+        f.seen_held(HELD_WHOLE);
+        seen_if(!f.marks.is_empty() && scratch.marks > 0, MARKS_WHOLE);
+    }
     if let (0, Some(f), Some(d)) = (number, flat, cut) {
-        if whole {
-            f.seen_held(HELD_WHOLE);
-            seen_if(!f.marks.is_empty() && scratch.marks > 0, MARKS_WHOLE);
-        } else {
-            number = lent.expect(f, d);
-        }
-        if !whole && number == 0 {
+        number = lent.expect(f, d);
+        if number == 0 {
             f.seen_held(HELD_CUT);
             seen_if(!f.marks.is_empty(), MARKS_CUT);
             want = ([d.verbs.len(), d.points.len() / 2, f.points.len() / 2, f.ends.len(), f.held()], 1, u8::from(rule != 0));
@@ -954,7 +1010,7 @@ fn refused_path(r: &mut Rng, c: &Case, g: &Given) -> Checked {
     equal("convexity of a refused path", (convex.refused, convex.convexity), (number, 1))?;
     equal("count of a refused path", (carried.refused, carried.count, carried.held), (number, 0, false))?;
     flattening(g, c.tolerance, None, Room::near(r, 24, 4))?;
-    dashing(g, c, 0, None, false, None, Room::near(r, 24, 4), lengths(r, 24, 12))
+    dashing(g, c, 0, None, None, Room::near(r, 24, 4), lengths(r, 24, 12))
 }
 
 // ---- values
@@ -1055,29 +1111,86 @@ fn values(r: &mut Rng, c: &Case) -> Checked {
     }
 }
 
-/// The pattern along the path that `b` has built, where the source does not walk too long.
-fn dashed(r: &mut Rng, c: &Case, mut b: PathBuilder, given: &Given, flat: &Flat, polylines: &[Vec<Vec2>]) -> Checked {
-    let dash = Dash::new(c.intervals.clone(), c.phase);
+/// Counts what the zeros of a pattern that cuts are like.
+fn seen_zeros(intervals: &[f32]) {
+    let (even, zero) = (intervals.len() % 2 == 0, |v: &f32| *v == 0.0);
+    seen_if(zero(&intervals[0]), ZERO_LEADS);
+    seen_if(intervals.windows(2).any(|w| w.iter().all(zero)), ZEROS_IN_A_ROW);
+    seen_if(intervals.iter().any(|v| zero(v) && v.is_sign_negative()), MINUS_ZERO);
+    seen_if(even && intervals.iter().step_by(2).all(zero), NO_DRAWN);
+    seen_if(even && intervals.iter().skip(1).step_by(2).all(zero), NO_GAP);
+    seen_if(!even, ZERO_ODD);
+}
+
+/// Counts who judged a path that is cut, and what its walks are like.
+fn seen_judged(c: &Case, j: &Judged) {
+    let zero = j.judge == Judge::Zero;
+    match j.judge {
+        Judge::Source => seen(BY_SOURCE),
+        Judge::Zero => seen(BY_ZERO),
+        Judge::Met => seen(BY_MET),
+    }
+    seen_if(j.unlike, if zero { ZERO_UNLIKE } else { MET_UNLIKE });
+    if zero {
+        seen_zeros(&c.intervals);
+    }
+    let any = |is: fn(&zeros::Met) -> bool| j.met.iter().any(is);
+    seen_if(any(|m| !m.start && m.ended), DASH_MET);
+    seen_if(any(|m| !m.start && !m.ended), GAP_MET);
+    seen_if(any(|m| !m.start) && zero, ZERO_MET);
+    seen_if(any(|m| !m.start && m.ended && m.begun), RUNS_MET);
+    seen_if(any(|m| m.apart), APART_MET);
+    seen_if(any(|m| m.start), START_MET);
+    seen_if(any(|m| m.start) && zero, ZERO_START_MET);
+    seen_if(any(|m| m.begun && m.bits), COPIED_ZERO);
+}
+
+/// Counts a path that is drawn whole, and patterns of zeros alone.
+fn seen_whole(c: &Case) {
+    let alone = !c.intervals.is_empty() && c.intervals.iter().all(|v| *v == 0.0);
+    seen(10);
+    seen_if(alone, ZEROS_ALONE);
+    seen_if(alone && (c.tolerance < 0.0 || c.tolerance.is_nan()), ZEROS_ALONE_BELOW);
+}
+
+/// Counts the room of the dash buffers for runs that the request judges, where the scratch has its room.
+fn seen_room(cut: &Cut, lens: (usize, usize)) {
+    let (floats, verbs) = (cut.points.len(), cut.verbs.len());
+    seen_if(verbs > 0 && lens == (floats, verbs), W6_FULL);
+    seen_if(verbs > 0 && (lens == (floats - 2, verbs) || lens == (floats, verbs - 1)), W6_SHORT);
+}
+
+/// What a dashing gives; differs where the driver itself is wrong.
+fn judged(b: &PathBuilder, c: &Case, polylines: &[Vec<Vec2>]) -> Result<Judged, Differs> {
+    zeros::judged(b, c, polylines).map_err(|wrong| ("the driver's own walk".into(), wrong.into()))
+}
+
+/// The pattern along the path that `b` has built, where it does not have too many intervals.
+fn dashed(r: &mut Rng, c: &Case, b: PathBuilder, given: &Given, flat: &Flat, polylines: &[Vec<Vec2>]) -> Checked {
     let limit = if r.one_in(512) { 200_000.0 } else { 4_000.0 };
-    let over = c.intervals.iter().map(|v| f64::from(*v)).sum::<f64>() * 2.1 > f64::from(c.tolerance);
-    if dash.is_usable() && over && !(work(polylines, &c.intervals) < limit) {
+    if Pattern::of(c).is_some_and(|p| p.draws()) && !(work(polylines, &c.intervals) < limit) {
         seen(12);
         return Ok(());
     }
-    // A note on the path tells Whole, a copy that keeps it, from Cut, which has none.
-    b.as_rounded_rect(Rect::new(Vec2::ZERO, Vec2::ZERO), 1.0);
-    let path = b.build();
-    let cut = dash_path(&path, &dash, c.tolerance);
-    let whole = cut.as_rounded_rect().is_some();
-    seen(10 + usize::from(!whole));
-    if !whole {
-        equal("the source's rule", cut.fill_rule(), path.fill_rule())?;
-    }
-    let cut = Cut::of(&cut);
-    let rule = if path.fill_rule() == FillRule::NonZero { 0 } else { 1 + r.below(255) as u8 };
+    let judged = judged(&b, c, polylines)?;
+    let cut = judged.runs.as_ref().map(|runs| Cut::of(runs));
+    let rule = if b.build().fill_rule() == FillRule::NonZero { 0 } else { 1 + r.below(255) as u8 };
     let scratch = Room::near(r, flat.points.len(), flat.ends.len());
     let scratch = if r.one_in(2) { Room::of(flat) } else { scratch };
-    dashing(given, c, rule, Some(flat), whole, Some(&cut), scratch, lengths(r, cut.points.len(), cut.verbs.len()))
+    let (floats, verbs) = cut.as_ref().map_or((given.points.len(), given.verbs.len()), |cut| (cut.points.len(), cut.verbs.len()));
+    let lens = lengths(r, floats, verbs);
+    match &cut {
+        None => seen_whole(c),
+        Some(cut) => {
+            seen(11);
+            seen_judged(c, &judged);
+            if judged.judge != Judge::Source && scratch.takes_lines(flat) && scratch.takes_marks(flat) {
+                seen_room(cut, lens);
+            }
+        }
+    }
+    let checked = dashing(given, c, rule, Some(flat), cut.as_ref(), scratch, lens);
+    checked.map_err(|(question, what)| (format!("{question}, {}", judged.judge.name()), what))
 }
 
 /// The whole case.
@@ -1108,7 +1221,7 @@ pub fn case(c: &Case) -> Checked {
         // over 64 intervals, on a path that may be refused for other reasons first
         let mut long = c.clone();
         long.intervals.resize(65 + r.below(70) as usize, 1.0);
-        dashing(&given, &long, 0, None, false, None, Room::near(r, 24, 4), lengths(r, 24, 12))?;
+        dashing(&given, &long, 0, None, None, Room::near(r, 24, 4), lengths(r, 24, 12))?;
     }
     if r.one_in(3) {
         damaged_path(r, c, given)?;
@@ -1146,16 +1259,34 @@ pub fn limits(r: &mut Rng) -> Checked {
         g.verbs[0] = 0;
         refused_path(r, &c, &g)?;
     }
-    // 65,536 verbs of dashes are the most.
-    for length in [65_536.0, 65_537.0, 65_538.0] {
-        let mut b = PathBuilder::new();
-        b.move_to(Vec2::ZERO).line_to(Vec2::new(length, 0.0));
-        let path = b.build();
-        let (flat, _) = reference_flat(&path, 0.25);
-        let cut = Cut::of(&dash_path(&path, &Dash::new(c.intervals.clone(), 0.0), 0.25));
-        dashing(&Given::of(&path), &c, 1, Some(&flat), false, Some(&cut), Room { floats: 4, ends: 1, marks: 1 }, (140_000, 70_000))?;
-    }
+    most_dashes(c)?;
     many_marks(r)
+}
+
+/// 65,536 verbs of dashes are the most: with gaps; with zero gaps; and with zero gaps at every corner.
+fn most_dashes(c: Case) -> Checked {
+    let line = |length: usize| vec![Vec2::new(length as f32, 0.0)];
+    let corners = |many: usize| (1..=many).map(|i| Vec2::new((i % 2) as f32, 0.0)).collect();
+    let gaps = [65_536, 65_537, 65_538].map(|length| (1.0, line(length)));
+    let none = [32_768, 32_769].map(|length| (0.0, line(length)));
+    let met = [32_768, 32_769].map(|many| (-0.0, corners(many)));
+    for (gap, points) in gaps.into_iter().chain(none).chain(met) {
+        let c = Case { intervals: vec![1.0, gap], ..c.clone() };
+        let mut b = PathBuilder::new();
+        b.move_to(Vec2::ZERO);
+        for p in &points {
+            b.line_to(*p);
+        }
+        let path = b.clone().build();
+        let (flat, polylines) = reference_flat(&path, c.tolerance);
+        let judged = judged(&b, &c, &polylines)?;
+        let cut = judged.runs.as_ref().map(|runs| Cut::of(runs));
+        for lens in [(140_000, 70_000), (2 * numbers::MAX_VERBS, numbers::MAX_VERBS)] {
+            let checked = dashing(&Given::of(&path), &c, 1, Some(&flat), cut.as_ref(), Room::of(&flat), lens);
+            checked.map_err(|(question, what)| (format!("{question} at the limits, {}", judged.judge.name()), what))?;
+        }
+    }
+    Ok(())
 }
 
 /// About as many polylines as the limits leave, with just the room for their marks, and with one byte less.

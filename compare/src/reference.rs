@@ -1,6 +1,8 @@
-//! What the Rust source makes of a call, of a curve and of a subpath: for the comparison, and for the maker of the program's list.
-use crate::case::{Call, Point};
+//! What the Rust source makes of a call, of a curve, of a subpath and of a dashing: for the comparison, and for the maker of the program's list.
+use crate::case::{Call, Case, Point};
+use crate::zeros::Run;
 use crate::{held, marks};
+use source::dash::{dash_path, Dash};
 use source::flatten::{cubic_segment_count, quad_segment_count};
 use source::path::{FillRule, Path, PathBuilder, Rect, Verb};
 use source::Vec2;
@@ -61,4 +63,24 @@ pub fn passed_over(subpaths: &[Subpath]) -> usize {
     let mut kept: Vec<bool> = subpaths.iter().map(|s| s.1.is_some()).collect();
     kept.dedup();
     kept.windows(3).filter(|w| w[0] && w[2]).count()
+}
+
+/// The runs that the source cuts the path to that `b` has built; None where it is drawn whole. A note on the path tells a copy, which keeps it, from
+/// what is cut, which has none.
+pub fn source_runs(mut b: PathBuilder, c: &Case) -> Option<Vec<Run>> {
+    b.as_rounded_rect(Rect::new(Vec2::ZERO, Vec2::ZERO), 1.0);
+    let path = b.build();
+    let cut = dash_path(&path, &Dash::new(c.intervals.clone(), c.phase), c.tolerance);
+    if cut.as_rounded_rect().is_some() {
+        return None;
+    }
+    assert_eq!(cut.fill_rule(), path.fill_rule(), "the source keeps the rule");
+    let mut runs: Vec<Run> = Vec::new();
+    for (verb, p) in cut.segments() {
+        match verb {
+            Verb::MoveTo => runs.push(vec![p[0]]),
+            _ => runs.last_mut().expect("the source lays a move first").push(p[0]),
+        }
+    }
+    Some(runs)
 }
