@@ -14,7 +14,7 @@ const LINE: &str = "0,0 8,0";
 const CORNER: &str = "0,0 2,0 2,4";
 const SQUARE: &str = "0,0 2,0 2,2 0,2 z";
 /// It flattens to 2,048 points at a tolerance of 0.0001.
-const LONG: &str = "0,0 500000,500000,1000000,0 1500000,500000,2000000,0 2000000.5,0.3125,2000001,0";
+const LONG: &str = "0,0 500000,500000,1000000,0 1500000,500000,2000000,0 2000000.5,0.3,2000001,0";
 
 /// At a tolerance of 0.25: path, pattern, phase, runs.
 const EXAMPLES: &[(&str, &str, f32, &str)] = &[

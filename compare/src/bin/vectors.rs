@@ -1,31 +1,40 @@
 //! Writes the list that the program `vectors` replays (crates/vectors/src/main.rt has its form): cases with every answer of the Rust source, and,
-//! which it does not say, the curves that are held back, by `held.rs`, and the marks of polylines, by `marks.rs`.
+//! which it does not say, the curves that are held back, by `held.rs`, and the marks of polylines, by `marks.rs`; and dashings by `zeros.rs`, which
+//! says where the source judges them.
 //!
 //!     compare/vectors SOURCE > crates/vectors/stdin
 //!
-//! Cases are drawn as the comparison draws them, by a fixed seed. A case is kept if it shows something, in the list of `shows`, that fewer than
-//! two kept cases show: which way each call, each count, each closing, each reason for Whole and each verdict went. Small cases are drawn
-//! first; larger ones are kept only for what no small one shows, and the largest only for what must be shown.
+//! The examples of `examples.rs` come first, all of them. The other cases are drawn as the comparison draws them, by a fixed seed. A case is kept if
+//! it shows something, in the list of `shows`, that fewer than two kept cases show: which way each call, each count, each closing, each reason for
+//! Whole, each zero, each corner and each verdict went. Small cases are drawn first; larger ones are kept only for what no small one shows, and the
+//! largest only for what must be shown.
 #[path = "../case.rs"]
 #[allow(dead_code)]
 mod case;
+#[path = "../examples.rs"]
+mod examples;
 #[path = "../held.rs"]
 #[allow(dead_code)]
 mod held;
 #[path = "../marks.rs"]
 mod marks;
+#[path = "../meeting.rs"]
+mod meeting;
 #[path = "../reference.rs"]
 mod reference;
+#[path = "../zeros.rs"]
+mod zeros;
 
 use case::{Call, Case, Rng};
 use reference::{apply, curve_count, passed_over, subpaths};
-use source::dash::{dash_path, Dash};
+use source::dash::Dash;
 use source::flatten::{self as curves, flatten};
-use source::path::{polygon_convexity, Convexity, FillRule, Path, PathBuilder, Rect, Verb};
+use source::path::{polygon_convexity, Convexity, FillRule, Path, PathBuilder, Verb};
 use source::Vec2;
 use std::collections::HashMap;
 use std::io::Write;
 use std::ops::Range;
+use zeros::{Judge, Judged, Pattern, Run};
 
 /// A call as seven words.
 fn call_words(c: &Call) -> [u32; 7] {
@@ -69,6 +78,12 @@ impl Words {
         self.n(vs.len());
         vs.iter().for_each(|v| self.n(*v as usize));
     }
+    /// The verbs and the points of runs.
+    fn runs(&mut self, runs: &[Run]) {
+        self.n(verbs_of(runs));
+        runs.iter().flat_map(|run| 0..run.len()).for_each(|i| self.n(i.min(1)));
+        self.points(&runs.concat());
+    }
     fn counts(&mut self, ns: &[usize]) {
         self.n(ns.len());
         ns.iter().for_each(|n| self.n(*n));
@@ -96,6 +111,11 @@ const MARK: usize = 165;
 /// The first `n` elements of a buffer so filled, in which these were written.
 fn filled<T: Copy>(written: &[T], filling: T, n: usize) -> Vec<T> {
     written.iter().copied().chain(std::iter::repeat(filling)).take(n).collect()
+}
+
+/// How many verbs runs have: a move or a line for each point.
+fn verbs_of(runs: &[Run]) -> usize {
+    runs.iter().map(Vec::len).sum()
 }
 
 fn rule(p: &Path) -> usize {
@@ -319,80 +339,126 @@ impl Answers {
         }
     }
 
-    /// Dashes by the source a path that is noted, so that a note tells Whole. None where the source would walk too long.
-    fn dashed(&mut self, c: &Case, noted: &Path, flat: &Flat) -> Option<Path> {
-        let dash = Dash::new(c.intervals.clone(), c.phase);
-        let sum: f32 = c.intervals.iter().sum();
+    /// Dashes. None where there are too many intervals.
+    fn dashed(&mut self, c: &Case, b: &PathBuilder, flat: &Flat) -> Option<Judged> {
         let lengths = flat.lengths();
         let length: f32 = lengths.iter().filter(|l| l.is_finite()).sum();
-        if dash.is_usable() && 2.1 * sum > c.tolerance && !(length / sum * (c.intervals.len() as f32) < 2000.0) {
+        let intervals = length / c.intervals.iter().sum::<f32>() * c.intervals.len() as f32;
+        if Pattern::of(c).is_some_and(|p| p.draws()) && !(intervals < 2000.0) {
             return None;
         }
-        let cut = dash_path(noted, &dash, c.tolerance);
-        let whole = cut.as_rounded_rect().is_some();
-        let zeros = c.intervals.iter().filter(|x| **x == 0.0).count().min(2);
+        let judged = zeros::judged(b, c, &flat.polylines).expect("the driver's own walk is right");
+        let usable = Dash::new(c.intervals.clone(), c.phase).is_usable();
+        self.pattern(c, usable, judged.runs.is_none());
+        if let Some(runs) = &judged.runs {
+            self.cut(c, runs, &lengths);
+            self.judge(c, &judged);
+        }
+        self.words.n(usize::from(usable));
+        for (verbs, marks) in [(2048, ROOM), (1, ROOM), (4, ROOM), (2048, 1)] {
+            self.dash_answer(&judged, rule(&b.clone().build()), flat, verbs, marks);
+        }
+        Some(judged)
+    }
+
+    /// Shows what a pattern is like.
+    fn pattern(&mut self, c: &Case, usable: bool, whole: bool) {
+        let sum: f32 = c.intervals.iter().sum();
         let bad = c.intervals.iter().map(|x| (like(*x) < 2) as usize + 2 * usize::from(*x < 0.0)).max().unwrap_or(9);
         self.shows.push(format!(
-            "whole {whole} usable {} odd {} zeros {zeros} bad {bad} phase {} {} sum {:?}",
-            dash.is_usable(),
+            "whole {whole} usable {usable} odd {} zeros {} bad {bad} phase {} {} sum {:?}",
             c.intervals.len() % 2,
+            zeros_in(c),
             like(c.phase).min(3),
             c.phase < 0.0,
             sum.partial_cmp(&c.tolerance)
         ));
         self.shows.push(format!("whole {whole} intervals {}", c.intervals.len().min(9)));
-        if !whole {
-            let kinds = |f: fn(&f32) -> bool| lengths.iter().filter(|l| f(l)).count().min(2);
-            self.shows.push(format!(
-                "cut {} of {} legs, zero {} wild {} zeros {zeros} over {}",
-                size(cut.verbs().len()).min(8),
-                size(lengths.len()).min(7),
-                kinds(|l| *l == 0.0),
-                kinds(|l| !l.is_finite()),
-                c.phase > sum
-            ));
+        if whole && !usable && zeros_in(c) > 0 {
+            self.shows.push(format!("zeros alone {}, tolerance {} {}", alone(c), like(c.tolerance), c.tolerance < 0.0));
         }
-        self.words.n(usize::from(dash.is_usable()));
-        for (verbs, marks) in [(2048, ROOM), (1, ROOM), (2048, 1)] {
-            self.dash_answer(&cut, flat, verbs, marks);
+    }
+
+    /// Shows what a cut path is like, whose segments have such lengths.
+    fn cut(&mut self, c: &Case, runs: &[Run], lengths: &[f32]) {
+        let kinds = |f: fn(&f32) -> bool| lengths.iter().filter(|l| f(l)).count().min(2);
+        self.shows.push(format!(
+            "cut {} of {} legs, zero {} wild {} zeros {} over {}",
+            size(verbs_of(runs)).min(8),
+            size(lengths.len()).min(7),
+            kinds(|l| *l == 0.0),
+            kinds(|l| !l.is_finite()),
+            zeros_in(c),
+            c.phase > c.intervals.iter().sum()
+        ));
+    }
+
+    /// Shows who judges what is cut, where zeros stand, and how segments begin with nothing left.
+    fn judge(&mut self, c: &Case, judged: &Judged) {
+        let Judged { judge, unlike, met, .. } = judged;
+        self.shows.push(format!("{}, unlike the source {unlike}", judge.name()));
+        let zero: Vec<bool> = c.intervals.iter().map(|v| *v == 0.0).collect();
+        if *judge == Judge::Zero {
+            let row = zero.chunk_by(|a, b| a == b).filter(|row| row[0]).map(<[bool]>::len).max();
+            let draws = Pattern::of(c).is_some_and(|p| p.draws());
+            let minus = c.intervals.iter().any(|v| v.to_bits() == 1 << 31);
+            self.shows.push(format!("first zero {} row {} odd {}", zero[0], row.unwrap_or(0).min(4), zero.len() % 2));
+            self.shows.push(format!("draws {draws} -0 {minus} phase {} unlike {unlike}", c.phase.partial_cmp(&0.0).is_some_and(|o| o.is_ne())));
         }
-        Some(cut)
+        for m in met {
+            let place = if m.start { "start" } else { "corner" };
+            let apart = if m.apart { ", apart" } else { "" };
+            let zero = zero.contains(&true);
+            self.shows.push(format!("{place} met{apart}, drawn {} then {}, copied zero {}, zeros {zero}", m.ended, m.begun, m.bits));
+        }
+        self.shows.push(format!("met {}", met.len().min(4)));
     }
 
     /// The answer where the dash buffers take so many verbs and the scratch so many marks, and what is left in the scratch. It has the number of
     /// curves held back only where it is Cut.
-    fn dash_answer(&mut self, cut: &Path, flat: &Flat, verbs: usize, marks: usize) {
+    fn dash_answer(&mut self, judged: &Judged, rule: usize, flat: &Flat, verbs: usize, marks: usize) {
         let (w, held, polylines) = (&mut self.words, flat.held(), flat.marks.len());
-        let kind = if cut.as_rounded_rect().is_some() {
-            w.n(0);
-            "whole"
-        } else if polylines > marks {
-            w.n(2);
-            w.n(3);
-            "no room in the scratch"
-        } else if cut.verbs().len() > verbs {
-            w.n(2);
-            w.n(3);
-            "no room"
-        } else {
-            w.n(1);
-            w.n(rule(cut));
-            w.n(held);
-            w.verbs(cut.verbs());
-            w.points(cut.points());
-            "cut"
+        let (w6, many) = (judged.judge != Judge::Source, judged.runs.as_deref().map_or(0, verbs_of));
+        let kind = match &judged.runs {
+            None => {
+                w.n(0);
+                "whole"
+            }
+            Some(runs) if polylines <= marks && many <= verbs => {
+                [1, rule, held].iter().for_each(|n| w.n(*n));
+                w.runs(runs);
+                "cut"
+            }
+            Some(_) => {
+                w.n(2);
+                w.n(3);
+                ["no room", "no room in the scratch"][usize::from(polylines > marks)]
+            }
         };
         w.front(flat, matches!(kind, "no room" | "cut"), marks);
         self.shows.push(format!("{kind} held {}", held.min(2)));
         self.shows.push(format!("{kind} with room for {marks} marks of {}", polylines.min(3)));
+        if w6 && many > 0 && verbs == 4 && many.abs_diff(verbs) <= 1 {
+            self.shows.push(format!("{kind} with room for 4 verbs of {many}, by W6"));
+        }
     }
+}
+
+/// How many zeros a pattern has, as far as two.
+fn zeros_in(c: &Case) -> usize {
+    c.intervals.iter().filter(|x| **x == 0.0).count().min(2)
+}
+
+/// Whether a pattern has zeros alone.
+fn alone(c: &Case) -> bool {
+    c.intervals.iter().all(|x| *x == 0.0)
 }
 
 /// The case with its answers, and what it shows. None where the program's buffers or the reference's time do not suffice.
 fn answered(c: &Case, most: usize) -> Option<Answers> {
     let mut a = Answers::default();
     a.case(c);
-    let mut b = a.calls(&c.calls);
+    let b = a.calls(&c.calls);
     let path = b.clone().build();
     a.path(b.current_point(), &path);
     a.questions(&path);
@@ -401,22 +467,28 @@ fn answered(c: &Case, most: usize) -> Option<Answers> {
     a.subpaths(&path, &flat);
     a.rooms(&flat);
     a.counts(&flat);
-    b.as_rounded_rect(Rect::new(Vec2::ZERO, Vec2::ZERO), 1.0);
-    let cut = a.dashed(c, &b.build(), &flat)?;
+    let judged = a.dashed(c, &b, &flat)?;
     let scaled = curves::tolerance_for_scale(c.tolerance, c.scale);
     a.words.f(scaled);
     a.shows.push(format!("scaled {} by {} {}", like(scaled), like(c.scale), c.scale < 0.0));
     let given = path.verbs().len() <= 500 && path.points().len() <= 1000;
-    let fits = given && flat.points().len() <= 2048 && flat.polylines.len() + 2 <= ROOM && cut.verbs().len() <= 2000;
+    let cut = judged.runs.as_deref().map_or(0, verbs_of);
+    let fits = given && flat.points().len() <= 2048 && flat.polylines.len() + 2 <= ROOM && cut <= 2000;
     (fits && a.words.0.len() <= most).then_some(a)
 }
 
 /// The room for marks where there is enough.
 const ROOM: usize = 256;
 
+/// The most words of a case.
+const WORDS: usize = 4352;
+
 /// What the list must show. Of curves that are held back: quads (2 points behind the pen) and cubics (3) at the edge, beyond it and far beyond it;
-/// one or two of them in each answer of dashing. Of marks: closes in every place; room for just as many, for more and for one fewer.
-const MUST: [&str; 39] = [
+/// one or two of them in each answer of dashing. Of marks: closes in every place; room for just as many, for more and for one fewer. Of zeros: one,
+/// two, three and four or more in a row, at the front and elsewhere; none but gaps above zero; zeros alone at every kind of tolerance. Of segments
+/// that begin with nothing left: behind a dash and behind a gap, before both, at corners, at starts, behind segments that are not walked, and where
+/// copying −0 shows. Room for just the verbs and for one fewer.
+const MUST: [&str; 71] = [
     "1,000 of 2 held false infinite false",
     "1,000 of 2 held true infinite false",
     "1,000 of 2 held true infinite true",
@@ -456,6 +528,38 @@ const MUST: [&str; 39] = [
     "whole with room for 1 marks of 2",
     "no room in the scratch with room for 1 marks of 2",
     "no room with room for 256 marks of 2",
+    "judged by the source, unlike the source false",
+    "judged by W6 for a zero, unlike the source false",
+    "judged by W6 for a zero, unlike the source true",
+    "judged by W6 for nothing left, unlike the source true",
+    "first zero true row 1 odd 0",
+    "first zero true row 2 odd 0",
+    "first zero true row 2 odd 1",
+    "first zero true row 3 odd 0",
+    "first zero true row 4 odd 0",
+    "first zero true row 4 odd 1",
+    "first zero false row 1 odd 0",
+    "first zero false row 1 odd 1",
+    "first zero false row 2 odd 0",
+    "first zero false row 3 odd 0",
+    "draws false -0 false phase true unlike true",
+    "draws true -0 true phase true unlike true",
+    "zeros alone true, tolerance 4 true",
+    "zeros alone true, tolerance 1 true",
+    "zeros alone true, tolerance 0 false",
+    "corner met, drawn true then false, copied zero false, zeros false",
+    "corner met, drawn false then true, copied zero false, zeros false",
+    "corner met, drawn true then true, copied zero false, zeros true",
+    "corner met, drawn false then false, copied zero false, zeros true",
+    "corner met, drawn false then true, copied zero true, zeros false",
+    "corner met, apart, drawn true then false, copied zero false, zeros false",
+    "corner met, apart, drawn false then true, copied zero true, zeros false",
+    "corner met, apart, drawn true then true, copied zero true, zeros true",
+    "start met, drawn false then true, copied zero true, zeros false",
+    "start met, drawn true then false, copied zero false, zeros false",
+    "start met, drawn true then true, copied zero true, zeros true",
+    "cut with room for 4 verbs of 4, by W6",
+    "no room with room for 4 verbs of 5, by W6",
 ];
 
 /// Cases that are drawn, by their numbers, and which of them are kept.
@@ -471,44 +575,64 @@ struct Round {
     new: usize,
 }
 
-const ROUNDS: [Round; 7] = [
-    Round { numbers: 0..60_000, made: |_, c| c, words: 170, enough: 2, new: 0 },
-    Round { numbers: 60_000..200_000, made: |_, c| c, words: 260, enough: 1, new: 0 },
-    Round { numbers: 200_000..260_000, made: |_, c| c, words: 640, enough: 1, new: 2 },
+const ROUNDS: [Round; 10] = [
+    Round { numbers: 0..60_000, made: |_, c| c, words: 190, enough: 2, new: 0 },
+    Round { numbers: 60_000..200_000, made: |_, c| c, words: 280, enough: 1, new: 0 },
+    Round { numbers: 200_000..260_000, made: |_, c| c, words: 660, enough: 1, new: 2 },
     Round { numbers: 260_000..280_000, made: |_, c| c, words: 4100, enough: 1, new: 2 },
     // A curve is just held back, or just isn't.
     Round { numbers: 280_000..300_000, made: case::at_edge, words: 4100, enough: 1, new: 2 },
     // Only for what must be shown: two curves held back have 2,001 points at least, and fill a case.
-    Round { numbers: 300_000..340_000, made: case::at_edge, words: 4352, enough: 1, new: usize::MAX },
+    Round { numbers: 300_000..340_000, made: case::at_edge, words: WORDS, enough: 1, new: usize::MAX },
     // Closes in every place.
-    Round { numbers: 340_000..360_000, made: case::strewn, words: 260, enough: 1, new: 0 },
+    Round { numbers: 340_000..360_000, made: case::strewn, words: 280, enough: 1, new: 0 },
+    // Zeros, corners that are met, and starts with nothing left.
+    Round { numbers: 360_000..380_000, made: meeting::with_zeros, words: 280, enough: 1, new: 0 },
+    Round { numbers: 380_000..400_000, made: meeting::on_corners, words: 400, enough: 1, new: 2 },
+    Round { numbers: 400_000..420_000, made: meeting::nothing_left, words: 400, enough: 1, new: 2 },
 ];
+
+/// The list: which cases are kept, and what they show.
+struct List<W: Write> {
+    out: W,
+    seen: HashMap<String, u32>,
+    cases: usize,
+    words: usize,
+}
+
+impl<W: Write> List<W> {
+    fn keep(&mut self, Answers { words: Words(words), shows }: Answers) {
+        shows.into_iter().for_each(|s| *self.seen.entry(s).or_default() += 1);
+        self.out.write_all(&(words.len() as u32).to_le_bytes()).unwrap();
+        words.iter().for_each(|x| self.out.write_all(&x.to_le_bytes()).unwrap());
+        self.cases += 1;
+        self.words += words.len();
+    }
+    /// Whether a round keeps a case that shows this.
+    fn wants(&self, shows: &[String], round: &Round) -> bool {
+        let new: Vec<&str> = shows.iter().map(String::as_str).filter(|s| !self.seen.contains_key(*s)).collect();
+        let must = new.iter().any(|s| MUST.contains(s));
+        (must || new.len() >= round.new) && shows.iter().any(|s| self.seen.get(s).copied().unwrap_or(0) < round.enough)
+    }
+}
 
 fn main() {
     assert!(source::keeps_first(), "the source must be built unoptimised");
-    let mut seen: HashMap<String, u32> = HashMap::new();
-    let mut out = std::io::BufWriter::new(std::io::stdout().lock());
-    let (mut kept, mut words) = (0, 0);
+    let mut list = List { out: std::io::BufWriter::new(std::io::stdout().lock()), seen: HashMap::new(), cases: 0, words: 0 };
+    for c in examples::cases() {
+        list.keep(answered(&c, WORDS).expect("the program's buffers suffice for an example"));
+    }
     for (number, round) in ROUNDS.iter().flat_map(|round| round.numbers.clone().map(move |n| (n, round))) {
         let r = &mut Rng::new(1, number);
         let c = case::random(r, 24);
         let c = (round.made)(r, c);
-        let Some(Answers { words: Words(w), shows }) = answered(&c, round.words) else { continue };
-        let new: Vec<&str> = shows.iter().map(String::as_str).filter(|s| !seen.contains_key(*s)).collect();
-        if new.len() < round.new && !new.iter().any(|s| MUST.contains(s)) {
-            continue;
+        let Some(answers) = answered(&c, round.words) else { continue };
+        if list.wants(&answers.shows, round) {
+            list.keep(answers);
         }
-        if shows.iter().all(|s| seen.get(s).copied().unwrap_or(0) >= round.enough) {
-            continue;
-        }
-        shows.into_iter().for_each(|s| *seen.entry(s).or_default() += 1);
-        out.write_all(&(w.len() as u32).to_le_bytes()).unwrap();
-        w.iter().for_each(|x| out.write_all(&x.to_le_bytes()).unwrap());
-        kept += 1;
-        words += w.len();
     }
     for what in MUST {
-        assert!(seen.contains_key(what), "no case shows: {what}");
+        assert!(list.seen.contains_key(what), "no case shows: {what}");
     }
-    eprintln!("{kept} cases, {} bytes, {} things shown", 4 * (kept + words), seen.len());
+    eprintln!("{} cases, {} bytes, {} things shown", list.cases, 4 * (list.cases + list.words), list.seen.len());
 }

@@ -1,8 +1,9 @@
 // Replays answers of the Rust source, and of the list's maker, from the requests, where the source does not say which curves are held back and which
-// polylines are closed. Standard input has a list of cases, made by `compare/vectors` (see there), in words of four bytes, low byte first. A case:
-// how many words follow; tolerance, phase and scale; the number of intervals, the intervals; the number of calls, the calls, seven words each; and
-// then every answer in the order in which `run` asks. A float is its pattern; every NaN is one here, since `from_bits` takes none. Floats, ends and
-// marks are lent as 77.5, 7777 and 165 where the list says what is left alone. The number of each case that differs is written out.
+// polylines are closed, and where a dash pattern has a zero or nothing is left of an interval at a corner or at the start. Standard input has a list
+// of cases, made by `compare/vectors` (see there), in words of four bytes, low byte first. A case: how many words follow; tolerance, phase and scale;
+// the number of intervals, the intervals; the number of calls, the calls, seven words each; and then every answer in the order in which `run` asks.
+// A float is its pattern; every NaN is one here, since `from_bits` takes none. Floats, ends and marks are lent as 77.5, 7777 and 165 where the list
+// says what is left alone. The number of each case that differs is written out.
 ghost use Prim.Native.Nat.{_≤_, _<_};
 use builder::Call;
 use builder::CurrentPoint;
@@ -462,8 +463,8 @@ fn ask_laid(
     ask_dash(data, t, verbs, points, rule, intervals, laid, &mut marks)
 }
 
-// Whether the pattern is usable; dashes with room for every verb and mark, again with room for one verb, which mostly meets the second 3, and again
-// with room for one mark, where two polylines meet the first.
+// Whether the pattern is usable; dashes with room for every verb and mark, again with room for one verb, which mostly meets the second 3, again with
+// room for four, which are often just as many or one too few, and again with room for one mark, where two polylines meet the first.
 fn ask_dashes(
     data: &[u32],
     t: Tape,
@@ -474,15 +475,17 @@ fn ask_dashes(
 ) -> Tape {
     let mut many = [0u8; 2048];
     let mut one = [0u8; 1];
+    let mut four = [0u8; 4];
     let mut again = [0u8; 2048];
     let mut mark = [165u8; 1];
     let usable = pattern::is_usable(intervals, float_at(data, 1));
     let u = expect_flag(data, t, usable);
     let v = ask_laid(data, u, verbs, points, rule, intervals, &mut many);
     let w = ask_laid(data, v, verbs, points, rule, intervals, &mut one);
+    let x = ask_laid(data, w, verbs, points, rule, intervals, &mut four);
     ask_dash(
         data,
-        w,
+        x,
         verbs,
         points,
         rule,
