@@ -17,7 +17,7 @@ use std::sync::atomic::{AtomicU64, Ordering};
 pub type Differs = (String, String);
 type Checked = Result<(), Differs>;
 
-const KINDS: usize = 70;
+const KINDS: usize = 74;
 static SEEN: [AtomicU64; KINDS] = [const { AtomicU64::new(0) }; KINDS];
 const NAMES: [&str; KINDS] = [
     "",
@@ -88,6 +88,10 @@ const NAMES: [&str; KINDS] = [
     "with nothing left at a start",
     "with that and a zero in the pattern",
     "with a copied −0 that would be 0 if computed, or the other way",
+    "with very little left at the begin of a segment, judged by the source",
+    "by W6",
+    "with less than nothing left there, judged by the source",
+    "by W6",
     "judged by W6 with just the dash buffers' room",
     "3 for the dash buffers one short, judged by W6",
 ];
@@ -144,9 +148,12 @@ const APART_MET: usize = 64;
 const START_MET: usize = 65;
 const ZERO_START_MET: usize = 66;
 const COPIED_ZERO: usize = 67;
+/// The first of two: judged by the source, by the request.
+const LITTLE_LEFT: usize = 68;
+const LESS_LEFT: usize = 70;
 /// Room where the request judges.
-const W6_FULL: usize = 68;
-const W6_SHORT: usize = 69;
+const W6_FULL: usize = 72;
+const W6_SHORT: usize = 73;
 
 fn seen(what: usize) {
     SEEN[what].fetch_add(1, Ordering::Relaxed);
@@ -1143,6 +1150,9 @@ fn seen_judged(c: &Case, j: &Judged) {
     seen_if(any(|m| m.start), START_MET);
     seen_if(any(|m| m.start) && zero, ZERO_START_MET);
     seen_if(any(|m| m.begun && m.bits), COPIED_ZERO);
+    let w6 = usize::from(j.judge != Judge::Source);
+    seen_if(j.little, LITTLE_LEFT + w6);
+    seen_if(j.less, LESS_LEFT + w6);
 }
 
 /// Counts a path that is drawn whole, and patterns of zeros alone.

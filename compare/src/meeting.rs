@@ -1,6 +1,6 @@
 //! Cases for dashing with zeros and corners: patterns that hold zeros, polylines on whose corners intervals end, and walks that start with nothing
 //! left.
-use crate::case::{Call, Case, Point, Rng};
+use crate::case::{nudged, Call, Case, Point, Rng};
 
 /// A zero; one in three is −0.
 fn zero(r: &mut Rng) -> f32 {
@@ -182,7 +182,8 @@ fn sized(mut c: Case, size: f32) -> Case {
     c
 }
 
-/// A case with a pattern and a path of whole lengths, in which intervals often end on corners.
+/// A case with a pattern and a path of whole lengths, in which intervals often end on corners. One in four has an interval a few floats away, so that
+/// others end just before and just behind.
 pub fn on_corners(r: &mut Rng, mut c: Case) -> Case {
     c.intervals = whole_lengths(r);
     if r.one_in(3) {
@@ -196,6 +197,10 @@ pub fn on_corners(r: &mut Rng, mut c: Case) -> Case {
     };
     if !r.one_in(8) {
         c.tolerance = 0.25;
+    }
+    if r.one_in(4) {
+        let at = r.below(c.intervals.len() as u64) as usize;
+        c.intervals[at] = if c.intervals[at] > 0.0 { nudged(r, c.intervals[at]) } else { chosen(r, &[1e-45, 1e-38, 1e-9]) };
     }
     let size = if r.one_in(4) { 2f32.powf(whole(r, -20, 20)) } else { 1.0 };
     sized(c, size)

@@ -78,6 +78,10 @@ pub struct Met {
 struct Walks {
     runs: Vec<Run>,
     met: Vec<Met>,
+    /// Whether a segment began with very little left, under a millionth of the interval.
+    little: bool,
+    /// Whether one began with less than nothing left: the position stopped growing before.
+    less: bool,
 }
 
 fn sum(lengths: &[f32]) -> f32 {
@@ -180,6 +184,8 @@ impl Pattern {
         let mut place = self.start();
         for (i, segment) in Walked::all(polyline).iter().enumerate() {
             let mut first = (i > 0).then_some(Begins::Before);
+            walks.little |= place.left > 0.0 && place.left < 1e-6 * self.intervals[place.interval].length;
+            walks.less |= place.left < 0.0;
             if place.left == 0.0 {
                 let ended = self.drawn(place);
                 place = self.behind(place);
@@ -243,6 +249,8 @@ pub struct Judged {
     /// Whether the source gives something else.
     pub unlike: bool,
     pub met: Vec<Met>,
+    pub little: bool,
+    pub less: bool,
 }
 
 /// Whether the runs are the same bit for bit, NaNs aside.
@@ -258,21 +266,21 @@ pub fn same_runs(a: &Option<Vec<Run>>, b: &Option<Vec<Run>>) -> bool {
 /// walks as is walked here, if there is no zero: so it meets one where this walk does. Where the source judges, what is worked out here must be the
 /// same, and which paths are drawn whole the request doesn't change: else the driver itself is wrong, and it is said in what.
 pub fn judged(b: &PathBuilder, c: &Case, polylines: &[Vec<Vec2>]) -> Result<Judged, &'static str> {
-    let walks = Pattern::of(c).map(|pattern| pattern.walks(polylines));
-    let met = walks.as_ref().map_or(Vec::new(), |walks| walks.met.clone());
-    let (runs, source) = (walks.map(|walks| walks.runs), source_runs(b.clone(), c));
+    let pattern = Pattern::of(c);
+    let Walks { runs, met, little, less } = pattern.as_ref().map_or(Walks::default(), |pattern| pattern.walks(polylines));
+    let (runs, source) = (pattern.map(|_| runs), source_runs(b.clone(), c));
     if runs.is_some() != source.is_some() {
         return Err("drawn whole by the source alone, or by the driver's own answer alone");
     }
     let unlike = !same_runs(&runs, &source);
-    if c.intervals.contains(&0.0) {
-        return Ok(Judged { judge: Judge::Zero, runs, unlike, met });
-    }
-    if !met.is_empty() {
-        return Ok(Judged { judge: Judge::Met, runs, unlike, met });
-    }
-    if unlike {
+    let judge = if c.intervals.contains(&0.0) {
+        Judge::Zero
+    } else if !met.is_empty() {
+        Judge::Met
+    } else if !unlike {
+        Judge::Source
+    } else {
         return Err("the source's walk and the driver's own differ");
-    }
-    Ok(Judged { judge: Judge::Source, runs: source, unlike, met })
+    };
+    Ok(Judged { judge, runs: if judge == Judge::Source { source } else { runs }, unlike, met, little, less })
 }

@@ -395,8 +395,9 @@ impl Answers {
 
     /// Shows who judges what is cut, where zeros stand, and how segments begin with nothing left.
     fn judge(&mut self, c: &Case, judged: &Judged) {
-        let Judged { judge, unlike, met, .. } = judged;
+        let Judged { judge, unlike, met, little, less, .. } = judged;
         self.shows.push(format!("{}, unlike the source {unlike}", judge.name()));
+        self.shows.push(format!("{}, little left {little}, less {less}", judge.name()));
         let zero: Vec<bool> = c.intervals.iter().map(|v| *v == 0.0).collect();
         if *judge == Judge::Zero {
             let row = zero.chunk_by(|a, b| a == b).filter(|row| row[0]).map(<[bool]>::len).max();
@@ -487,8 +488,8 @@ const WORDS: usize = 4352;
 /// one or two of them in each answer of dashing. Of marks: closes in every place; room for just as many, for more and for one fewer. Of zeros: one,
 /// two, three and four or more in a row, at the front and elsewhere; none but gaps above zero; zeros alone at every kind of tolerance. Of segments
 /// that begin with nothing left: behind a dash and behind a gap, before both, at corners, at starts, behind segments that are not walked, and where
-/// copying −0 shows. Room for just the verbs and for one fewer.
-const MUST: [&str; 71] = [
+/// copying −0 shows; with very little and with less than nothing left. Room for just the verbs and for one fewer.
+const MUST: [&str; 75] = [
     "1,000 of 2 held false infinite false",
     "1,000 of 2 held true infinite false",
     "1,000 of 2 held true infinite true",
@@ -558,6 +559,10 @@ const MUST: [&str; 71] = [
     "start met, drawn false then true, copied zero true, zeros false",
     "start met, drawn true then false, copied zero false, zeros false",
     "start met, drawn true then true, copied zero true, zeros true",
+    "judged by the source, little left true, less false",
+    "judged by the source, little left false, less true",
+    "judged by W6 for a zero, little left false, less true",
+    "judged by W6 for nothing left, little left false, less true",
     "cut with room for 4 verbs of 4, by W6",
     "no room with room for 4 verbs of 5, by W6",
 ];
