@@ -404,7 +404,7 @@ impl Answers {
             let draws = Pattern::of(c).is_some_and(|p| p.draws());
             let minus = c.intervals.iter().any(|v| v.to_bits() == 1 << 31);
             self.shows.push(format!("first zero {} row {} odd {}", zero[0], row.unwrap_or(0).min(4), zero.len() % 2));
-            self.shows.push(format!("draws {draws} -0 {minus} phase {} unlike {unlike}", c.phase.partial_cmp(&0.0).is_some_and(|o| o.is_ne())));
+            self.shows.push(format!("draws {draws} -0 {minus} phase {} unlike {unlike}", c.phase != 0.0));
         }
         for m in met {
             let place = if m.start { "start" } else { "corner" };
