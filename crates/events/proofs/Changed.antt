@@ -58,8 +58,8 @@ pub record Changed : Type 0 where
   pub zero-drawn : walked (whole 3 ∷ whole 1 ∷ whole 0 ∷ whole 1 ∷ []) f0 (whole 5) (at 0 0 ∷ at 8 0 ∷ []) ≡ Move (at 0 0) ∷ Line (at 3 0) ∷ Move (at 5 0) ∷ Line (at 8 0) ∷ []
   -- zeros are passed over while the phase is placed; the first point is computed there, at 0 / 8
   pub phase-past-zeros : walked (minus0 ∷ whole 0 ∷ whole 2 ∷ whole 1 ∷ []) (whole 1) (whole 3) (at 0 0 ∷ at 8 0 ∷ []) ≡ Move (at 0 0) ∷ Line (at 1 0) ∷ Move (at 2 0) ∷ Line (at 4 0) ∷ Move (at 5 0) ∷ Line (at 7 0) ∷ []
-  -- and while it runs down: a dash of 1 is used up, the gap of 0 passed over, and 1 of 2 is left
-  pub phase-over-zero : walked (whole 1 ∷ whole 0 ∷ whole 2 ∷ whole 1 ∷ []) (whole 2) (whole 4) (at 0 0 ∷ at 5 0 ∷ []) ≡ Move (at 0 0) ∷ Line (at 1 0) ∷ Move (at 2 0) ∷ Line (at 3 0) ∷ Move (at 3 0) ∷ Line (at 5 0) ∷ []
+  -- and while it runs down: 1 and 1 are used up, the dash of 0 is passed over, and 4 of the gap of 5 are left
+  pub phase-over-zero : walked (whole 1 ∷ whole 1 ∷ whole 0 ∷ whole 5 ∷ []) (whole 3) (whole 7) (at 0 0 ∷ at 5 0 ∷ []) ≡ Move (at 4 0) ∷ Line (at 5 0) ∷ []
   -- a gap ends at a corner; the next dash begins at the corner, copied with its −0
   pub copied : walked (whole 2 ∷ whole 1 ∷ []) f0 (whole 3) (at 3 0 ∷ vec minus0 f0 ∷ at 0 2 ∷ []) ≡ Move (at 3 0) ∷ Line (at 1 0) ∷ Move (vec minus0 f0) ∷ Line (at 0 2) ∷ []
   -- a segment that is passed over stands between: the next walked one's own first point
