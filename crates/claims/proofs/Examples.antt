@@ -70,6 +70,9 @@ pub record Starred : Type 0 where
   pub dash-5 : Draws (whole 5 ∷ []) (at 0 0 ∷ at 8 0 ∷ []) (Move (at 0 0) ∷ Line (at 5 0) ∷ [])
   pub corner-6-2 : Draws (whole 6 ∷ whole 2 ∷ []) (at 0 0 ∷ at 4 0 ∷ at 4 4 ∷ []) (Move (at 0 0) ∷ Line (at 4 0) ∷ Line (at 4 2) ∷ [])
   pub corner-2-1 : Draws (whole 2 ∷ whole 1 ∷ []) (at 0 0 ∷ at 2 0 ∷ at 2 4 ∷ []) (Move (at 0 0) ∷ Line (at 2 0) ∷ Move (at 2 1) ∷ Line (at 2 3) ∷ [])
+  -- W6: zeros and corners
+  pub dash-0-5 : Draws (whole 0 ∷ whole 5 ∷ []) (at 0 0 ∷ at 8 0 ∷ []) []
+  pub dash-0-2-1 : Draws (whole 0 ∷ whole 2 ∷ whole 1 ∷ []) (at 0 0 ∷ at 8 0 ∷ []) (Move (at 2 0) ∷ Line (at 3 0) ∷ Move (at 3 0) ∷ Line (at 5 0) ∷ [])
   pub whole-fine : cuts (eighth ∷ eighth ∷ []) f0 quarter ≡ false
   -- behind a move to NaN, whose 64 quads of weight 100 a program shows
   pub weight-0 : laid (MoveTo (vec nan nan) ∷ ConicTo (at 1 1) (at 2 0) f0 ∷ []) (0 ∷ 0 ∷ []) ≡ Move (vec nan nan) ∷ Line (at 2 0) ∷ []
@@ -105,6 +108,8 @@ starred =
       dash-5 = (refl, refl);
       corner-6-2 = (refl, refl);
       corner-2-1 = (refl, refl);
+      dash-0-5 = (refl, refl);
+      dash-0-2-1 = (refl, refl);
       whole-fine = refl;
       weight-0 = refl;
     }

@@ -57,7 +57,7 @@ fn next_above(cycle: &[f32], index: usize) -> usize
     i
 }
 
-// Whether the interval at `from`, or each second one after it, has one above 0.
+// Whether one of the intervals of number `from`, `from` + 2, .. is not 0.
 fn one_above(cycle: &[f32], from: usize) -> bool
     ensures { λ r. ⌜ r ≡ oneAbove (drop from (now (cycle .entry))) ⌝ }
 {
@@ -72,7 +72,7 @@ fn one_above(cycle: &[f32], from: usize) -> bool
     false
 }
 
-// No drawn interval is above 0, and some gap is: whatever is walked, nothing is drawn.
+// Every drawn interval is 0, and some gap is not: whatever is walked, nothing is drawn.
 pub fn gaps_only(cycle: &[f32]) -> bool
     ensures { λ r. ⌜ r ≡ gapsOnly (now (cycle .entry)) ⌝ }
 {

@@ -12,12 +12,14 @@ use Rattle.float.specs.Arith.{f0}
 use Rattle.vec2.specs.declared.Vec2.{Vec2}
 use Rattle.flatten.specs.Polylines.{polylines}
 use Rattle.pattern.specs.Cycle.{some, cycleOf, period}
-use Rattle.events.specs.Source.{noZero, exactAny}
-use Rattle.events.proofs.Source.{all-as-source}
-use Rattle.events.proofs.Gaps.{start-above, next-above, nothing-drawn}
+use Rattle.events.specs.Zeros.{after}
+use Rattle.events.specs.Source.{noZero, meets, anyMeets}
+use Rattle.events.proofs.Source.{walk-as-source, all-as-source}
+use Rattle.events.proofs.Gaps.{first-behind, start-above, next-above, nothing-drawn}
 use Rattle.pattern.proofs.Zeros.{zeros-alone}
 use Rattle.dash.specs.Dash.{dashes}
-use Rattle.dash.specs.Zeros.{sourceStart, sourceDashes, sourceDecides, ZerosAndCorners}
+use Rattle.dash.specs.Runs.{walkOf}
+use Rattle.dash.specs.Zeros.{sourceStart, sourceWalkOf, sourceDecidesWalk, sourceDashes, sourceDecides, ZerosAndCorners}
 
 first : (a b : Bool) → a && b ≡ true → a ≡ true
 first true b h = refl
@@ -58,9 +60,18 @@ module _ (xs : List Float) (h : noZero xs ≡ true) (k : some xs ≡ true) where
       go (x ∷ l) true e = omega arith
       go (x ∷ l) false e = omega arith
 
+walk-is-source : (intervals : List Float) (phase : Float) (p : List Vec2) → sourceDecidesWalk intervals phase p ≡ true → walkOf intervals phase p ≡ sourceWalkOf intervals phase p
+walk-is-source intervals phase p h =
+    let met = meets (cycleOf intervals) (sourceStart intervals phase) p in
+    let d = first (some intervals && noZero intervals) (not met) h in
+    let z = second (some intervals) (noZero intervals) d in
+    let s = first (some intervals) (noZero intervals) d in
+    walk-as-source (cycleOf intervals) (cycle-no-zero intervals z s) (cycle-even intervals z s) (cycle-some intervals z s) phase (period intervals) p
+    (not-true met (second (some intervals && noZero intervals) (not met) h))
+
 dashes-as-source : (intervals : List Float) (phase : Float) (ps : List Vec2) (es : List ℕ) → sourceDecides intervals phase ps es ≡ true → dashes intervals phase ps es ≡ sourceDashes intervals phase ps es
 dashes-as-source intervals phase ps es h =
-    let met = exactAny (cycleOf intervals) (sourceStart intervals phase) (polylines 0 ps es) in
+    let met = anyMeets (cycleOf intervals) (sourceStart intervals phase) (polylines 0 ps es) in
     let p = first (some intervals && noZero intervals) (not met) h in
     let z = second (some intervals) (noZero intervals) p in
     let s = first (some intervals) (noZero intervals) p in
@@ -72,8 +83,11 @@ zeros-and-corners intervals phase =
     let cs = cycleOf intervals in
     record {
       zeros-alone = λ h tolerance. zeros-alone intervals h phase tolerance;
+      first-behind = first-behind cs 0;
+      next-behind = λ i. first-behind cs (after cs i);
       start-above = λ k l h. start-above cs k l h phase (period intervals);
       next-above = λ k l h i. next-above cs k l h i;
       no-dash = λ h ps es. nothing-drawn cs h phase (period intervals) (polylines 0 ps es);
+      walk-as-source = walk-is-source intervals phase;
       as-source = dashes-as-source intervals phase;
     }

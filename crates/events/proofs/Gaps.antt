@@ -18,7 +18,7 @@ use Rattle.events.specs.declared.Leg.{Leg}
 use Rattle.events.specs.declared.Event.{Event}
 use Rattle.events.specs.declared.Event.the-variants.{Nothing, Cut, Reach, Pass}
 use Rattle.events.specs.Loop.{Trace, traced}
-use Rattle.events.specs.Zeros.{after, zeroAt, above, firstAbove, next, oneAbove, gapsOnly}
+use Rattle.events.specs.Zeros.{after, zeroAt, above, firstAbove, next, ahead, BehindZeros, oneAbove, gapsOnly}
 use Rattle.events.specs.Phase.{phaseGoes, phaseNext, startOf}
 use Rattle.events.specs.Walk.{Place, place, inside, resting, nothingLeft, turned, goes, onward, tells, cutFrom, beginningAt, cutLeg, passed, legOf, counts, walkFrom, walkPolyline, walkAll}
 use Rattle.events.specs.Drawn.{drawn}
@@ -89,32 +89,28 @@ found-one (x ∷ y ∷ xs) h = go (le x f0) refl h (λ k. found-one xs k)
 -- ---- once round, every interval is met
 
 module _ (cs : List Float) where
-  afters : ℕ → ℕ → ℕ
-  afters zero i = i
-  afters (suc m) i = afters m (after cs i)
-
-  found-by : (k m : ℕ) (b : Bool) (i : ℕ) → zeroAt cs i ≡ b → m < k → zeroAt cs (afters m i) ≡ false → zeroAt cs (above cs k b i) ≡ false
-  unfolding above afters
+  found-by : (k m : ℕ) (b : Bool) (i : ℕ) → zeroAt cs i ≡ b → m < k → zeroAt cs (ahead cs m i) ≡ false → zeroAt cs (above cs k b i) ≡ false
+  unfolding above ahead
   found-by zero m b i e l h = absurd (omega arith)
   found-by (suc k) m false i e l h = e
   found-by (suc k) zero true i e l h = absurd (true≢false (sym e ∙ h))
   found-by (suc k) (suc m) true i e l h = found-by k m (zeroAt cs (after cs i)) (after cs i) refl (omega arith) h
 
-  climb : (m i : ℕ) → i + m < length cs → afters m i ≡ i + m
-  unfolding afters
+  climb : (m i : ℕ) → i + m < length cs → ahead cs m i ≡ i + m
+  unfolding ahead
   climb zero i h = omega arith
   climb (suc m) i h =
       let e : i + 1 + m ≡ i + suc m = omega arith in
-      ap (afters m) (sym (next-index i (length cs) (omega (arith, h)))) ∙ climb m (i + 1) (omega (arith, h)) ∙ e
+      ap (ahead cs m) (sym (next-index i (length cs) (omega (arith, h)))) ∙ climb m (i + 1) (omega (arith, h)) ∙ e
 
-  wrap : (m j i : ℕ) → i + m + 1 ≡ length cs → j < length cs → afters (suc (m + j)) i ≡ j
-  unfolding afters
+  wrap : (m j i : ℕ) → i + m + 1 ≡ length cs → j < length cs → ahead cs (suc (m + j)) i ≡ j
+  unfolding ahead
   wrap zero j i h l =
       let e : 0 + j ≡ j = omega arith in
-      ap (λ (k : ℕ). afters k (after cs i)) e ∙ ap (afters j) (sym (first-index i (length cs) (omega (arith, h)) (omega (arith, h)))) ∙ climb j 0 (omega (arith, l)) ∙ e
+      ap (λ (k : ℕ). ahead cs k (after cs i)) e ∙ ap (ahead cs j) (sym (first-index i (length cs) (omega (arith, h)) (omega (arith, h)))) ∙ climb j 0 (omega (arith, l)) ∙ e
   wrap (suc m) j i h l =
       let e : suc m + j ≡ suc (m + j) = omega arith in
-      ap (λ (k : ℕ). afters k (after cs i)) e ∙ ap (afters (suc (m + j))) (sym (next-index i (length cs) (omega (arith, h)))) ∙ wrap m j (i + 1) (omega (arith, h)) l
+      ap (λ (k : ℕ). ahead cs k (after cs i)) e ∙ ap (ahead cs (suc (m + j))) (sym (next-index i (length cs) (omega (arith, h)))) ∙ wrap m j (i + 1) (omega (arith, h)) l
 
   module _ (f : Found cs) where
     met : (i : ℕ) → i < length cs → zeroAt cs (firstAbove cs i) ≡ false
@@ -129,6 +125,24 @@ module _ (cs : List Float) where
             let h : f .at < i = leb-false _ _ e in
             let s : i + (length cs - i - 1) + 1 ≡ length cs = omega (arith, l) in
             found-by (length cs) (suc (length cs - i - 1 + f .at)) (zeroAt cs i) i refl (omega (arith, h, l)) (ap (zeroAt cs) (wrap (length cs - i - 1) (f .at) i s (f .within)) ∙ f .found)
+
+-- only zeros are passed over
+module _ (cs : List Float) where
+  behind-zeros : (k : ℕ) (b : Bool) (i : ℕ) → zeroAt cs i ≡ b → BehindZeros cs i (above cs k b i)
+  unfolding above ahead
+  behind-zeros zero b i e = record { many = 0; lands = refl; zeros = λ m l. absurd (omega arith) }
+  behind-zeros (suc k) false i e = record { many = 0; lands = refl; zeros = λ m l. absurd (omega arith) }
+  behind-zeros (suc k) true i e = further (behind-zeros k (zeroAt cs (after cs i)) (after cs i) refl)
+    where
+      further : BehindZeros cs (after cs i) (above cs k (zeroAt cs (after cs i)) (after cs i)) → BehindZeros cs i (above cs k (zeroAt cs (after cs i)) (after cs i))
+      further r = record { many = suc (r .many); lands = r .lands; zeros = each r }
+        where
+          each : (r : BehindZeros cs (after cs i) (above cs k (zeroAt cs (after cs i)) (after cs i))) (m : ℕ) → m < suc (r .many) → zeroAt cs (ahead cs m i) ≡ true
+          each r zero l = e
+          each r (suc m) l = r .zeros m (omega (arith, l))
+
+  pub first-behind : (i : ℕ) → BehindZeros cs i (firstAbove cs i)
+  first-behind i = behind-zeros (length cs) (zeroAt cs i) i refl
 
 -- so where one interval is not 0 none that is 0 is entered
 module _ (cs : List Float) (k : ℕ) (l : k < length cs) (h : zeroAt cs k ≡ false) where

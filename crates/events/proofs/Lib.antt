@@ -4,4 +4,4 @@ pub mod Phases
 pub mod Runs
 pub mod Source
 pub mod Gaps
-pub mod Changed
+pub mod Examples

@@ -150,17 +150,17 @@ module _ (cs : List Float) (nz : source.noZero cs ≡ true) (even : length cs % 
     leg-same true p h e = let l = leg p h in (ap (λ (z : Bool). cutLeg z cs g p) e ∙ l .0, l .1)
     leg-same false p h e = (refl, h)
 
-  walk-same : (a : Vec2) (ps : List Vec2) (p : Pos) → Good p → source.exactFrom cs a ps p ≡ false → walkFrom cs a ps p ≡ source.walkFrom cs a ps p
-  unfolding walkFrom source.walkFrom source.exactFrom
+  walk-same : (a : Vec2) (ps : List Vec2) (p : Pos) → Good p → source.meetsFrom cs a ps p ≡ false → walkFrom cs a ps p ≡ source.walkFrom cs a ps p
+  unfolding walkFrom source.walkFrom source.meetsFrom
   walk-same a [] p h e = refl
   walk-same a (b ∷ ps) p h e =
       let g = legOf a b in
       let z = source.passed (counts g) cs g p in
-      let l = leg-same g (counts g) p h (or-first (counts g && nothingLeft p) (source.exactFrom cs b ps (z .pos)) e) in
+      let l = leg-same g (counts g) p h (or-first (counts g && nothingLeft p) (source.meetsFrom cs b ps (z .pos)) e) in
       ap (λ (c : Told). c .events ++ walkFrom cs b ps (c .pos)) (l .0)
-      ∙ ap (λ (es : List Event). z .events ++ es) (walk-same b ps (z .pos) (l .1) (or-rest (counts g && nothingLeft p) (source.exactFrom cs b ps (z .pos)) e))
+      ∙ ap (λ (es : List Event). z .events ++ es) (walk-same b ps (z .pos) (l .1) (or-rest (counts g && nothingLeft p) (source.meetsFrom cs b ps (z .pos)) e))
 
-  pub line-same : (start : Pos) (ps : List Vec2) → Good start → source.exact cs start ps ≡ false → walkPolyline cs start ps ≡ source.walkPolyline cs start ps
+  pub line-same : (start : Pos) (ps : List Vec2) → Good start → source.meets cs start ps ≡ false → walkPolyline cs start ps ≡ source.walkPolyline cs start ps
   line-same start [] h e = refl
   line-same start (a ∷ ps) h e = walk-same a ps start h e
 
@@ -260,20 +260,20 @@ module _ (cs : List Float) (nz : source.noZero cs ≡ true) (even : length cs % 
   abbrev start : Pos
   start = source.startOf cs phase period
 
-  line-as-source : (ps : List Vec2) → source.exact cs start ps ≡ false → drawn false (walkPolyline cs start ps) ≡ source.drawn false (source.walkPolyline cs start ps)
+  line-as-source : (ps : List Vec2) → source.meets cs start ps ≡ false → drawn false (walkPolyline cs start ps) ≡ source.drawn false (source.walkPolyline cs start ps)
   line-as-source ps e =
       ap (drawn false) (line-same cs nz even start ps (start-good cs nz even phase period some .1) e)
       ∙ calm-drawn false (source.walkPolyline cs start ps) (calm-line cs start ps)
 
-  all-from : (ps : List (List Vec2)) → source.exactAny cs start ps ≡ false → walkAll cs start ps ≡ source.walkAll cs start ps
+  all-from : (ps : List (List Vec2)) → source.anyMeets cs start ps ≡ false → walkAll cs start ps ≡ source.walkAll cs start ps
   all-from [] e = refl
   all-from (p ∷ ps) e =
-      ap (λ (l : List Segment). l ++ walkAll cs start ps) (line-as-source p (or-first (source.exact cs start p) (source.exactAny cs start ps) e))
-      ∙ ap (λ (l : List Segment). source.drawn false (source.walkPolyline cs start p) ++ l) (all-from ps (or-rest (source.exact cs start p) (source.exactAny cs start ps) e))
+      ap (λ (l : List Segment). l ++ walkAll cs start ps) (line-as-source p (or-first (source.meets cs start p) (source.anyMeets cs start ps) e))
+      ∙ ap (λ (l : List Segment). source.drawn false (source.walkPolyline cs start p) ++ l) (all-from ps (or-rest (source.meets cs start p) (source.anyMeets cs start ps) e))
 
   -- one polyline, and all of them
-  pub walk-as-source : (ps : List Vec2) → source.exact cs start ps ≡ false → drawn false (walkPolyline cs (startOf cs phase period) ps) ≡ source.drawn false (source.walkPolyline cs start ps)
+  pub walk-as-source : (ps : List Vec2) → source.meets cs start ps ≡ false → drawn false (walkPolyline cs (startOf cs phase period) ps) ≡ source.drawn false (source.walkPolyline cs start ps)
   walk-as-source ps e = ap (λ (s : Pos). drawn false (walkPolyline cs s ps)) start-as-source ∙ line-as-source ps e
 
-  pub all-as-source : (ps : List (List Vec2)) → source.exactAny cs start ps ≡ false → walkAll cs (startOf cs phase period) ps ≡ source.walkAll cs start ps
+  pub all-as-source : (ps : List (List Vec2)) → source.anyMeets cs start ps ≡ false → walkAll cs (startOf cs phase period) ps ≡ source.walkAll cs start ps
   all-as-source ps e = ap (λ (s : Pos). walkAll cs s ps) start-as-source ∙ all-from ps e

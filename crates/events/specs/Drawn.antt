@@ -11,7 +11,7 @@ abbrev pub downTo : Bool → Vec2 → Vec2 → List Segment
 downTo true a z = Line z ∷ []
 downTo false a z = Move a ∷ Line z ∷ []
 
--- the Bool says whether the pen is down; an interval that ends with nothing drawn leaves it up
+-- the Bool says whether the pen is down; `Nothing` puts it up (W6)
 abbrev pub drawn : Bool → List Event → List Segment
 drawn d [] = []
 drawn d (Nothing ∷ es) = drawn false es

@@ -86,17 +86,17 @@ noZero [] = true
 noZero (x ∷ xs) = not (isZero x) && noZero xs
 
 -- a walked segment begins with exactly nothing left
-unfoldable pub exactFrom : List Float → Vec2 → List Vec2 → Pos → Bool
-exactFrom cs a [] p = false
-exactFrom cs a (b ∷ ps) p =
+unfoldable pub meetsFrom : List Float → Vec2 → List Vec2 → Pos → Bool
+meetsFrom cs a [] p = false
+meetsFrom cs a (b ∷ ps) p =
     let g = legOf a b in
-    (counts g && nothingLeft p) || exactFrom cs b ps (passed (counts g) cs g p .pos)
+    (counts g && nothingLeft p) || meetsFrom cs b ps (passed (counts g) cs g p .pos)
 
-abbrev pub exact : List Float → Pos → List Vec2 → Bool
-exact cs start [] = false
-exact cs start (a ∷ ps) = exactFrom cs a ps start
+abbrev pub meets : List Float → Pos → List Vec2 → Bool
+meets cs start [] = false
+meets cs start (a ∷ ps) = meetsFrom cs a ps start
 
 -- in one of the polylines
-abbrev pub exactAny : List Float → Pos → List (List Vec2) → Bool
-exactAny cs start [] = false
-exactAny cs start (p ∷ ps) = exact cs start p || exactAny cs start ps
+abbrev pub anyMeets : List Float → Pos → List (List Vec2) → Bool
+anyMeets cs start [] = false
+anyMeets cs start (p ∷ ps) = meets cs start p || anyMeets cs start ps

@@ -81,7 +81,7 @@ module _ (cs : List Float) (g : Leg) where
 abbrev pub place : Pos → Float → Place
 place p t = record { pos = p; t = t }
 
--- a dash that begins with a leg begins at the leg's first point, copied (W6)
+-- behind an interval that ended where the leg begins, a dash begins at the leg's first point, copied (W6)
 abbrev pub beginningAt : Vec2 → List Event → List Event
 beginningAt a [] = []
 beginningAt a (Nothing ∷ es) = Nothing ∷ es

@@ -1,5 +1,6 @@
 -- Intervals by their numbers in the cycle: one that is 0 is passed over, however many stand in a row (W6). Definitions only.
-use Prim.Native.Nat.{ℕ, zero, suc, _+_, _%_}
+use mathlib.Core.Path.{_≡_}
+use Prim.Native.Nat.{ℕ, zero, suc, _+_, _%_, _<_}
 use mathlib.Core.Bool.{Bool, true, false, not, _&&_, _||_}
 use mathlib.Core.List.{List, [], _∷_}
 use lib.ListN.{length, getD, drop}
@@ -30,12 +31,23 @@ firstAbove cs i = above cs (length cs) (zeroAt cs i) i
 abbrev pub next : List Float → ℕ → ℕ
 next cs i = firstAbove cs (after cs i)
 
--- the first, the third or a later one of odd place is above 0
+-- the number m places on from i
+unfoldable pub ahead : List Float → ℕ → ℕ → ℕ
+ahead cs zero i = i
+ahead cs (suc m) i = ahead cs m (after cs i)
+
+-- j comes behind i and zeros alone
+pub record BehindZeros (cs : List Float) (i j : ℕ) : Type 0 where
+  pub many : ℕ
+  pub lands : j ≡ ahead cs many i
+  pub zeros : (m : ℕ) → m < many → zeroAt cs (ahead cs m i) ≡ true
+
+-- one of the intervals of number 0, 2, 4, .. is not 0
 abbrev pub oneAbove : List Float → Bool
 oneAbove [] = false
 oneAbove (x ∷ []) = not (isZero x)
 oneAbove (x ∷ y ∷ xs) = not (isZero x) || oneAbove xs
 
--- no drawn interval is above 0, and some gap is
+-- every drawn interval is 0, and some gap is not
 abbrev pub gapsOnly : List Float → Bool
 gapsOnly cs = not (oneAbove cs) && oneAbove (drop 1 cs)

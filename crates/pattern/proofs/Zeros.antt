@@ -4,21 +4,20 @@ use mathlib.Core.Logic.{_⊎_, inl, inr}
 use mathlib.Core.Bool.{Bool, true, false, _&&_}
 use mathlib.Core.List.{List, [], _∷_}
 use lib.Count.{trailingZeros}
-use lib.IntN.{pos}
-use lib.Ieee.{Float, fin, add, sum, round, size, units, odd, span, climb, lt, ofBits, ofFields}
+use lib.Ieee.{Float, binary32, add, sum, round, size, units, odd, span, climb, lt, ofBits, ofFields}
 use Rattle.float.specs.Arith.{plus, f0}
 use Rattle.float.specs.Small.{isFinite}
 use Rattle.pattern.specs.Cycle.{sumFrom, allGood, some, AllZero, period, usable, cuts}
 
-add-zero : plus f0 (fin false 0 (pos 0)) ≡ f0
+add-zero : plus f0 f0 ≡ f0
 unfolding add sum round size units odd span climb ofBits ofFields trailingZeros
 add-zero = refl
 
-add-minus-zero : plus f0 (fin true 0 (pos 0)) ≡ f0
+add-minus-zero : plus f0 (ofBits binary32 0x8000_0000) ≡ f0
 unfolding add sum round size units odd span climb ofBits ofFields trailingZeros
 add-minus-zero = refl
 
-adds-none : (x : Float) → (x ≡ fin false 0 (pos 0)) ⊎ (x ≡ fin true 0 (pos 0)) → plus f0 x ≡ f0
+adds-none : (x : Float) → (x ≡ f0) ⊎ (x ≡ ofBits binary32 0x8000_0000) → plus f0 x ≡ f0
 adds-none x (inl e) = ap (plus f0) e ∙ add-zero
 adds-none x (inr e) = ap (plus f0) e ∙ add-minus-zero
 

@@ -6,8 +6,7 @@ use mathlib.Core.Bool.{Bool, true, false, _&&_, cond}
 use mathlib.Core.List.{List, [], _∷_, _++_}
 use lib.ListN.{length}
 use lib.Dec.{eqb}
-use lib.IntN.{pos}
-use lib.Ieee.{Float, fin, lt, le}
+use lib.Ieee.{Float, binary32, ofBits, lt, le}
 use Rattle.float.specs.Arith.{plus, f0}
 use Rattle.float.specs.Small.{isFinite}
 
@@ -40,7 +39,7 @@ usable ps phase = some ps && (allGood ps && (lt f0 (sumFrom f0 ps) && isFinite p
 -- zeros alone, 0 or −0 (W6)
 abbrev pub AllZero : List Float → Type 0
 AllZero [] = Unit
-AllZero (x ∷ xs) = ((x ≡ fin false 0 (pos 0)) ⊎ (x ≡ fin true 0 (pos 0))) × AllZero xs
+AllZero (x ∷ xs) = ((x ≡ f0) ⊎ (x ≡ ofBits binary32 0x8000_0000)) × AllZero xs
 
 -- the working cycle's sum
 abbrev pub period : List Float → Float

@@ -14,7 +14,7 @@ use Rattle.events.specs.Walk.{Told, turned}
 abbrev pub tallyStroke : Tip → Bool → Tip
 tallyStroke k down = record { at = k .at + cond (k .down) 1 2; down = down }
 
--- an interval ends inside a leg, drawn or not
+-- an interval ends, drawn or not, and leaves the pen up
 abbrev pub tallyCut : Bool → Tip → Tip
 tallyCut drawing k = cond drawing (tallyStroke k false) (record { at = k .at; down = false })
 

@@ -115,7 +115,7 @@ fn leg_of(lengths: &[f32], k: usize, a: Vec2, b: Vec2) -> Leg
     }
 }
 
-// A leg is walked where its length is finite and above 0. The pattern is compared, since the compiler makes more of two comparisons with infinities.
+// A leg is walked where its length is finite and above 0. The bits are compared, since the compiler makes more of two comparisons with infinities.
 fn is_walked(length: f32) -> bool
     ensures { λ r. ⌜ r ≡ (isFinite length && not (le length f0)) ⌝ }
 {
@@ -231,7 +231,7 @@ fn pass_count(cycle: &[f32], g: Leg, w: Walked, cap: usize) -> Walked
     w
 }
 
-// How many verbs are laid once a polyline is walked, `at` before it: no more than counted up to the cap.
+// How many verbs are laid once a polyline is walked, `at` before it; a number over the cap where that is over it.
 pub fn count_polyline(
     points: &[f32],
     lengths: &[f32],

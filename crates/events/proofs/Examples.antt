@@ -1,4 +1,4 @@
--- Examples of the walk with zeros and corners, computed from the definitions: what W6 changes, and what stays. Phase 0 but where one is named. Assumes nothing.
+-- Examples of the walk with zeros and corners (W6), computed from the definitions: what changes, and what stays. Phase 0 but where one is named. Assumes nothing.
 use mathlib.Core.Path.{_≡_, refl}
 use mathlib.Core.Bool.{true, false}
 use mathlib.Core.List.{List, [], _∷_}
@@ -30,7 +30,7 @@ abbrev sourced : List Float → Float → Float → List Vec2 → List Segment
 sourced cs phase period ps = source.drawn false (source.walkPolyline cs (source.startOf cs phase period) ps)
 
 abbrev meets : List Float → Float → Float → List Vec2 → Type 0
-meets cs phase period ps = source.exact cs (source.startOf cs phase period) ps ≡ true
+meets cs phase period ps = source.meets cs (source.startOf cs phase period) ps ≡ true
 
 abbrev minus0 : Float
 minus0 = ofBits binary32 0x8000_0000
@@ -38,10 +38,16 @@ minus0 = ofBits binary32 0x8000_0000
 abbrev short : Float
 short = ofBits binary32 0x3080_0000
 
+abbrev gap-at-start : List Float
+gap-at-start = whole 100000000 ∷ whole 1 ∷ whole 100000000 ∷ whole 1 ∷ []
+
+abbrev phase-15 : Float
+phase-15 = whole 150000000
+
 abbrev corner : List Vec2
 corner = at 0 0 ∷ at 2 0 ∷ at 2 4 ∷ []
 
-pub record Changed : Type 0 where
+pub record Examples : Type 0 where
   pub none-drawn : walked (whole 0 ∷ whole 5 ∷ []) f0 (whole 5) (at 0 0 ∷ at 8 0 ∷ []) ≡ []
   -- and the source is not asked
   pub not-source : source.noZero (whole 0 ∷ whole 5 ∷ []) ≡ false
@@ -51,13 +57,13 @@ pub record Changed : Type 0 where
   pub runs-on : sourced (whole 2 ∷ whole 1 ∷ []) f0 (whole 3) corner ≡ Move (at 0 0) ∷ Line (at 2 0) ∷ Line (at 2 4) ∷ []
   pub met : meets (whole 2 ∷ whole 1 ∷ []) f0 (whole 3) corner
   -- the last corner ends an interval too, but no walked segment begins there
-  pub not-met : source.exact (whole 2 ∷ whole 1 ∷ []) (source.startOf (whole 2 ∷ whole 1 ∷ []) f0 (whole 3)) (at 0 0 ∷ at 8 0 ∷ []) ≡ false
+  pub not-met : source.meets (whole 2 ∷ whole 1 ∷ []) (source.startOf (whole 2 ∷ whole 1 ∷ []) f0 (whole 3)) (at 0 0 ∷ at 8 0 ∷ []) ≡ false
   -- a zero gap at a corner begins a new run
   pub corner-2-0 : walked (whole 2 ∷ whole 0 ∷ []) f0 (whole 2) corner ≡ Move (at 0 0) ∷ Line (at 2 0) ∷ Move (at 2 0) ∷ Line (at 2 2) ∷ Move (at 2 2) ∷ Line (at 2 4) ∷ []
   pub zeros-in-a-row : walked (whole 3 ∷ whole 0 ∷ whole 0 ∷ whole 0 ∷ whole 4 ∷ whole 1 ∷ []) f0 (whole 8) (at 0 0 ∷ at 8 0 ∷ []) ≡ Move (at 0 0) ∷ Line (at 3 0) ∷ Move (at 3 0) ∷ Line (at 7 0) ∷ []
   pub zero-drawn : walked (whole 3 ∷ whole 1 ∷ whole 0 ∷ whole 1 ∷ []) f0 (whole 5) (at 0 0 ∷ at 8 0 ∷ []) ≡ Move (at 0 0) ∷ Line (at 3 0) ∷ Move (at 5 0) ∷ Line (at 8 0) ∷ []
-  -- zeros are passed over while the phase is placed; the first point is computed there, at 0 / 8
-  pub phase-past-zeros : walked (minus0 ∷ whole 0 ∷ whole 2 ∷ whole 1 ∷ []) (whole 1) (whole 3) (at 0 0 ∷ at 8 0 ∷ []) ≡ Move (at 0 0) ∷ Line (at 1 0) ∷ Move (at 2 0) ∷ Line (at 4 0) ∷ Move (at 5 0) ∷ Line (at 7 0) ∷ []
+  -- zeros are passed over while the phase is placed; the first point is computed there, −0 + 8 × (0 / 8), and not copied
+  pub phase-past-zeros : walked (minus0 ∷ whole 0 ∷ whole 2 ∷ whole 1 ∷ []) (whole 1) (whole 3) (vec minus0 f0 ∷ at 8 0 ∷ []) ≡ Move (at 0 0) ∷ Line (at 1 0) ∷ Move (at 2 0) ∷ Line (at 4 0) ∷ Move (at 5 0) ∷ Line (at 7 0) ∷ []
   -- and while it runs down: 1 and 1 are used up, the dash of 0 is passed over, and 4 of the gap of 5 are left
   pub phase-over-zero : walked (whole 1 ∷ whole 1 ∷ whole 0 ∷ whole 5 ∷ []) (whole 3) (whole 7) (at 0 0 ∷ at 5 0 ∷ []) ≡ Move (at 4 0) ∷ Line (at 5 0) ∷ []
   -- a gap ends at a corner; the next dash begins at the corner, copied with its −0
@@ -66,12 +72,20 @@ pub record Changed : Type 0 where
   pub jump : walked (whole 2 ∷ whole 0 ∷ []) f0 (whole 2) (at 0 0 ∷ at 2 0 ∷ vec (inf false) f0 ∷ at 5 0 ∷ at 5 2 ∷ []) ≡ Move (at 0 0) ∷ Line (at 2 0) ∷ Move (at 5 0) ∷ Line (at 5 2) ∷ []
   -- less than nothing left is not exactly nothing: a gap of 2 ^ -30 behind a dash of 3 does not move the position, and runs on, as in the source
   pub less-left : walked (whole 3 ∷ short ∷ []) f0 (whole 3) (at 0 0 ∷ at 8 0 ∷ at 8 4 ∷ []) ≡ Move (at 0 0) ∷ Line (at 3 0) ∷ []
-  -- nothing left at the start: 1e8 1 1e8 1 at phase 1.5e8, where 1 no longer lowers what remains
-  pub start : walked (whole 100000000 ∷ whole 1 ∷ whole 100000000 ∷ whole 1 ∷ []) (whole 150000000) (whole 200000000) (at 0 0 ∷ at 8 0 ∷ []) ≡ Move (at 0 0) ∷ Line (at 8 0) ∷ []
+  -- a segment that is not walked leaves the pen as it is
+  pub pen-stays : walked (whole 5 ∷ whole 1 ∷ []) f0 (whole 6) (at 0 0 ∷ at 2 0 ∷ at 2 0 ∷ at 2 4 ∷ []) ≡ Move (at 0 0) ∷ Line (at 2 0) ∷ Line (at 2 3) ∷ []
+  -- nothing left of a gap at the start, by the floor at 0: 1 no longer lowers what remains of 1.5e8; the dash behind it begins at the first point, copied
+  pub start : walked gap-at-start phase-15 (whole 200000000) (vec minus0 f0 ∷ at 8 0 ∷ []) ≡ Move (vec minus0 f0) ∷ Line (at 8 0) ∷ []
+  pub start-met : meets gap-at-start phase-15 (whole 200000000) (vec minus0 f0 ∷ at 8 0 ∷ [])
+  -- the first walked segment's first point, behind one that is not walked
+  pub start-later : walked gap-at-start phase-15 (whole 200000000) (at 5 5 ∷ at 5 5 ∷ vec minus0 f0 ∷ at 0 8 ∷ []) ≡ Move (at 5 5) ∷ Line (vec minus0 f0) ∷ Line (at 0 8) ∷ []
+  -- nothing left of a dash there: it draws nothing, where the source's runs on
+  pub dash-at-start : walked (whole 100000000 ∷ whole 100000000 ∷ whole 1 ∷ whole 100000000 ∷ []) (whole 250000000) (whole 300000000) (at 0 0 ∷ at 8 0 ∷ []) ≡ []
+  pub dash-runs-on : sourced (whole 100000000 ∷ whole 100000000 ∷ whole 1 ∷ whole 100000000 ∷ []) (whole 250000000) (whole 300000000) (at 0 0 ∷ at 8 0 ∷ []) ≡ Move (at 0 0) ∷ Line (at 8 0) ∷ []
 
-pub changed : Changed
-unfolding above walkFrom cutFrom source.walkFrom source.cutFrom source.exactFrom trace traced squareRoot twiceRoot wholeRoot isFinite maximum remEuclid abs isNan add sub mul div rem lt le eq neg sum round size units odd span climb ofInt ofBits ofFields trailingZeros
-changed =
+pub examples : Examples
+unfolding above walkFrom cutFrom source.walkFrom source.cutFrom source.meetsFrom trace traced squareRoot twiceRoot wholeRoot isFinite maximum remEuclid abs isNan add sub mul div rem lt le eq neg sum round size units odd span climb ofInt ofBits ofFields trailingZeros
+examples =
     record {
       none-drawn = refl;
       not-source = refl;
@@ -88,5 +102,10 @@ changed =
       copied = refl;
       jump = refl;
       less-left = refl;
+      pen-stays = refl;
       start = refl;
+      start-met = refl;
+      start-later = refl;
+      dash-at-start = refl;
+      dash-runs-on = refl;
     }
