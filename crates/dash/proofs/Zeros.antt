@@ -14,6 +14,7 @@ use Rattle.flatten.specs.Polylines.{polylines}
 use Rattle.pattern.specs.Cycle.{some, cycleOf, period}
 use Rattle.events.specs.Zeros.{after}
 use Rattle.events.specs.Source.{noZero, meets, anyMeets}
+use Rattle.events.proofs.Turns.{both-left, both-second}
 use Rattle.events.proofs.Source.{walk-as-source, all-as-source}
 use Rattle.events.proofs.Gaps.{first-behind, start-above, next-above, nothing-drawn}
 use Rattle.pattern.proofs.Zeros.{zeros-alone}
@@ -21,20 +22,12 @@ use Rattle.dash.specs.Dash.{dashes}
 use Rattle.dash.specs.Runs.{walkOf}
 use Rattle.dash.specs.Zeros.{sourceStart, sourceWalkOf, sourceDecidesWalk, sourceDashes, sourceDecides, ZerosAndCorners}
 
-first : (a b : Bool) → a && b ≡ true → a ≡ true
-first true b h = refl
-first false b h = h
-
-second : (a b : Bool) → a && b ≡ true → b ≡ true
-second true b h = h
-second false b h = absurd (true≢false (sym h))
-
 both : (a b : Bool) → a ≡ true → b ≡ true → a && b ≡ true
 both a b p q = rw (p, q)
 
 no-zero-twice : (xs ys : List Float) → noZero xs ≡ true → noZero ys ≡ true → noZero (xs ++ ys) ≡ true
 no-zero-twice [] ys h k = k
-no-zero-twice (x ∷ xs) ys h k = both (not (le x f0)) (noZero (xs ++ ys)) (first (not (le x f0)) (noZero xs) h) (no-zero-twice xs ys (second (not (le x f0)) (noZero xs) h) k)
+no-zero-twice (x ∷ xs) ys h k = both (not (le x f0)) (noZero (xs ++ ys)) (both-left (not (le x f0)) (noZero xs) h) (no-zero-twice xs ys (both-second (not (le x f0)) (noZero xs) h) k)
 
 -- the working cycle has no zero either, and its length is even and not 0
 module _ (xs : List Float) (h : noZero xs ≡ true) (k : some xs ≡ true) where
@@ -63,20 +56,20 @@ module _ (xs : List Float) (h : noZero xs ≡ true) (k : some xs ≡ true) where
 walk-is-source : (intervals : List Float) (phase : Float) (p : List Vec2) → sourceDecidesWalk intervals phase p ≡ true → walkOf intervals phase p ≡ sourceWalkOf intervals phase p
 walk-is-source intervals phase p h =
     let met = meets (cycleOf intervals) (sourceStart intervals phase) p in
-    let d = first (some intervals && noZero intervals) (not met) h in
-    let z = second (some intervals) (noZero intervals) d in
-    let s = first (some intervals) (noZero intervals) d in
+    let d = both-left (some intervals && noZero intervals) (not met) h in
+    let z = both-second (some intervals) (noZero intervals) d in
+    let s = both-left (some intervals) (noZero intervals) d in
     walk-as-source (cycleOf intervals) (cycle-no-zero intervals z s) (cycle-even intervals z s) (cycle-some intervals z s) phase (period intervals) p
-    (not-true met (second (some intervals && noZero intervals) (not met) h))
+    (not-true met (both-second (some intervals && noZero intervals) (not met) h))
 
 dashes-as-source : (intervals : List Float) (phase : Float) (ps : List Vec2) (es : List ℕ) → sourceDecides intervals phase ps es ≡ true → dashes intervals phase ps es ≡ sourceDashes intervals phase ps es
 dashes-as-source intervals phase ps es h =
     let met = anyMeets (cycleOf intervals) (sourceStart intervals phase) (polylines 0 ps es) in
-    let p = first (some intervals && noZero intervals) (not met) h in
-    let z = second (some intervals) (noZero intervals) p in
-    let s = first (some intervals) (noZero intervals) p in
+    let p = both-left (some intervals && noZero intervals) (not met) h in
+    let z = both-second (some intervals) (noZero intervals) p in
+    let s = both-left (some intervals) (noZero intervals) p in
     all-as-source (cycleOf intervals) (cycle-no-zero intervals z s) (cycle-even intervals z s) (cycle-some intervals z s) phase (period intervals) (polylines 0 ps es)
-    (not-true met (second (some intervals && noZero intervals) (not met) h))
+    (not-true met (both-second (some intervals && noZero intervals) (not met) h))
 
 pub zeros-and-corners : (intervals : List Float) (phase : Float) → ZerosAndCorners intervals phase
 zeros-and-corners intervals phase =

@@ -23,7 +23,7 @@ use Rattle.events.specs.Phase.{phaseGoes, phaseNext, startOf}
 use Rattle.events.specs.Walk.{Place, place, inside, resting, nothingLeft, turned, goes, onward, tells, cutFrom, beginningAt, cutLeg, passed, legOf, counts, walkFrom, walkPolyline, walkAll}
 use Rattle.events.specs.Drawn.{drawn}
 use Rattle.events.proofs.Loops.{traced-ind}
-use Rattle.events.proofs.Turns.{next-index, first-index, above-in, both-left}
+use Rattle.events.proofs.Turns.{next-index, first-index, above-in, both-left, both-second}
 use Rattle.vec2.proofs.Lists.{drop-next}
 use Rattle.events.proofs.Source.{or-first, or-rest}
 
@@ -182,12 +182,8 @@ module _ (cs : List Float) (only : gapsOnly cs ≡ true) where
 
   some : Found cs
   some =
-      let f = found-one (drop 1 cs) (second (not (oneAbove cs)) (oneAbove (drop 1 cs)) only) in
+      let f = found-one (drop 1 cs) (both-second (not (oneAbove cs)) (oneAbove (drop 1 cs)) only) in
       record { at = 1 + f .at; within = omega (arith, f .within, length-drop 1 cs); found = ap (λ (x : Float). le x f0) (sym (getD-drop 1 cs (f .at) nan)) ∙ f .found }
-    where
-      second : (a b : Bool) → a && b ≡ true → b ≡ true
-      second true b h = h
-      second false b h = absurd (true≢false (sym h))
 
   -- an interval that is not passed over is a gap
   gap : (i : ℕ) → i < length cs → zeroAt cs i ≡ false → eqb (i % 2) 0 ≡ false

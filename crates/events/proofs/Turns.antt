@@ -23,6 +23,10 @@ pub both-left : (a b : Bool) → a && b ≡ true → a ≡ true
 both-left true b h = refl
 both-left false b h = h
 
+pub both-second : (a b : Bool) → a && b ≡ true → b ≡ true
+both-second true b h = h
+both-second false b h = absurd (true≢false (sym h))
+
 pub both-right : (a b : Bool) → a && not b ≡ true → b ≡ false
 both-right true true h = sym h
 both-right true false h = refl
