@@ -1,4 +1,4 @@
--- The starred examples of the scope, five of W2 and eight of W4, together, computed from the definitions: tolerance 0.25, phase 0. Assumes nothing.
+-- The starred examples of the scope (2 1 round a corner as W6 has it), five of W2, eight of W4 and two of W6, together, computed from the definitions: tolerance 0.25, phase 0. Assumes nothing.
 use mathlib.Core.Path.{_≡_, refl}
 use mathlib.Core.Bool.{true, false}
 use mathlib.Core.List.{List, [], _∷_}
@@ -70,7 +70,7 @@ pub record Starred : Type 0 where
   pub dash-5 : Draws (whole 5 ∷ []) (at 0 0 ∷ at 8 0 ∷ []) (Move (at 0 0) ∷ Line (at 5 0) ∷ [])
   pub corner-6-2 : Draws (whole 6 ∷ whole 2 ∷ []) (at 0 0 ∷ at 4 0 ∷ at 4 4 ∷ []) (Move (at 0 0) ∷ Line (at 4 0) ∷ Line (at 4 2) ∷ [])
   pub corner-2-1 : Draws (whole 2 ∷ whole 1 ∷ []) (at 0 0 ∷ at 2 0 ∷ at 2 4 ∷ []) (Move (at 0 0) ∷ Line (at 2 0) ∷ Move (at 2 1) ∷ Line (at 2 3) ∷ [])
-  -- W6: zeros and corners
+  -- W6: zeros
   pub dash-0-5 : Draws (whole 0 ∷ whole 5 ∷ []) (at 0 0 ∷ at 8 0 ∷ []) []
   pub dash-0-2-1 : Draws (whole 0 ∷ whole 2 ∷ whole 1 ∷ []) (at 0 0 ∷ at 8 0 ∷ []) (Move (at 2 0) ∷ Line (at 3 0) ∷ Move (at 3 0) ∷ Line (at 5 0) ∷ [])
   pub whole-fine : cuts (eighth ∷ eighth ∷ []) f0 quarter ≡ false

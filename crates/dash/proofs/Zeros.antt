@@ -16,6 +16,7 @@ use Rattle.events.specs.Zeros.{after}
 use Rattle.events.specs.Source.{noZero, meets, anyMeets}
 use Rattle.events.proofs.Turns.{both-left, both-second}
 use Rattle.events.proofs.Source.{walk-as-source, all-as-source}
+use Rattle.events.proofs.Laws.{ends-there}
 use Rattle.events.proofs.Gaps.{first-behind, start-above, next-above, nothing-drawn}
 use Rattle.pattern.proofs.Zeros.{zeros-alone}
 use Rattle.dash.specs.Dash.{dashes}
@@ -80,6 +81,7 @@ zeros-and-corners intervals phase =
       next-behind = λ i. first-behind cs (after cs i);
       start-above = λ k l h. start-above cs k l h phase (period intervals);
       next-above = λ k l h i. next-above cs k l h i;
+      ends = ends-there cs;
       no-dash = λ h ps es. nothing-drawn cs h phase (period intervals) (polylines 0 ps es);
       walk-as-source = walk-is-source intervals phase;
       as-source = dashes-as-source intervals phase;

@@ -78,7 +78,7 @@ pub record Examples : Type 0 where
   pub start : walked gap-at-start phase-15 (whole 200000000) (vec minus0 f0 ∷ at 8 0 ∷ []) ≡ Move (vec minus0 f0) ∷ Line (at 8 0) ∷ []
   pub start-met : meets gap-at-start phase-15 (whole 200000000) (vec minus0 f0 ∷ at 8 0 ∷ [])
   -- the first walked segment's first point, behind one that is not walked
-  pub start-later : walked gap-at-start phase-15 (whole 200000000) (at 5 5 ∷ at 5 5 ∷ vec minus0 f0 ∷ at 0 8 ∷ []) ≡ Move (at 5 5) ∷ Line (vec minus0 f0) ∷ Line (at 0 8) ∷ []
+  pub start-later : walked gap-at-start phase-15 (whole 200000000) (at 0 0 ∷ vec minus0 f0 ∷ at 0 8 ∷ []) ≡ Move (vec minus0 f0) ∷ Line (at 0 8) ∷ []
   -- nothing left of a dash there: it draws nothing, where the source's runs on
   pub dash-at-start : walked (whole 100000000 ∷ whole 100000000 ∷ whole 1 ∷ whole 100000000 ∷ []) (whole 250000000) (whole 300000000) (at 0 0 ∷ at 8 0 ∷ []) ≡ []
   pub dash-runs-on : sourced (whole 100000000 ∷ whole 100000000 ∷ whole 1 ∷ whole 100000000 ∷ []) (whole 250000000) (whole 300000000) (at 0 0 ∷ at 8 0 ∷ []) ≡ Move (at 0 0) ∷ Line (at 8 0) ∷ []

@@ -5,3 +5,4 @@ pub mod Runs
 pub mod Source
 pub mod Gaps
 pub mod Examples
+pub mod Laws

@@ -5,3 +5,4 @@ pub mod Walk
 pub mod Drawn
 pub mod Runs
 pub mod Source
+pub mod Laws

@@ -36,7 +36,7 @@ unfoldable pub ahead : List Float → ℕ → ℕ → ℕ
 ahead cs zero i = i
 ahead cs (suc m) i = ahead cs m (after cs i)
 
--- j comes behind i and zeros alone
+-- j is i, or comes behind zeros and nothing else from i on
 pub record BehindZeros (cs : List Float) (i j : ℕ) : Type 0 where
   pub many : ℕ
   pub lands : j ≡ ahead cs many i
