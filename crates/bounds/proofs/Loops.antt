@@ -12,8 +12,8 @@ use Rattle.vec2.specs.declared.Vec2.{Vec2}
 use Rattle.vec2.specs.Vec2.{vec}
 use Rattle.vec2.specs.Points.{pointsIn, pointAt}
 use Rattle.vec2.proofs.Points.{length-pointsIn, pointsIn-at}
-use Rattle.path.specs.declared.Rect.{Rect}
-use Rattle.path.specs.Rect.{widened}
+use Rattle.rect.specs.declared.Rect.{Rect}
+use Rattle.rect.specs.Rect.{widened}
 use Rattle.bounds.specs.declared.Question.{Question}
 use Rattle.bounds.specs.Bounds.{widenedBy}
 use Rattle.bounds.specs.Range.{passed, allPass}

@@ -5,7 +5,7 @@ use mathlib.Core.List.{List}
 use lib.Dec.{eqb}
 use lib.Ieee.{Float}
 use Rattle.vec2.specs.Points.{pointsIn}
-use Rattle.path.specs.Rect.{emptyRect}
+use Rattle.rect.specs.Rect.{emptyRect}
 use Rattle.path.specs.Check.{badPath}
 use Rattle.bounds.specs.declared.reply.Bounds.{Bounds}
 use Rattle.bounds.specs.declared.reply.Answer.{Answer}
@@ -20,7 +20,7 @@ bounded vs fs =
     (record { rect = emptyRect; refused = badPath vs fs })
 
 -- a refused path has `false` beside its number
-abbrev pub answered : Question → List ℕ → List Float → Answer
-answered q vs fs =
+abbrev pub answerTo : Question → List ℕ → List Float → Answer
+answerTo q vs fs =
     cond (eqb (badPath vs fs) 0) (record { holds = allPass q (pointsIn fs); refused = 0 })
     (record { holds = false; refused = badPath vs fs })

@@ -1,8 +1,8 @@
 -- The box round points: `Path::bounds` of path.rs. Definitions only.
 use mathlib.Core.List.{List, [], _∷_}
 use Rattle.vec2.specs.declared.Vec2.{Vec2}
-use Rattle.path.specs.declared.Rect.{Rect}
-use Rattle.path.specs.Rect.{emptyRect, widened}
+use Rattle.rect.specs.declared.Rect.{Rect}
+use Rattle.rect.specs.Rect.{emptyRect, widened}
 
 -- one point after the other
 unfoldable pub widenedBy : Rect → List Vec2 → Rect

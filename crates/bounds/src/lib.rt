@@ -3,12 +3,12 @@ ghost use mathlib.Core.Path.{_≡_};
 ghost use Rattle.vec2.specs.Points.{pointsIn};
 ghost use Rattle.bounds.specs.Bounds.{boundsOf};
 ghost use Rattle.bounds.specs.Range.{isSmall, inRange, passed, allPass};
-ghost use Rattle.bounds.specs.Answer.{bounded, answered};
+ghost use Rattle.bounds.specs.Answer.{bounded, answerTo};
 ghost use Rattle.bounds.specs.declared.Question.the-variants.{Finite, InRange};
 
 pub mod reply;
 
-use path::Rect;
+use rect::Rect;
 use reply::Answer;
 use reply::Bounds;
 use vec2::Vec2;
@@ -93,7 +93,7 @@ pub fn bounds(verbs: &[u8], points: &[f32]) -> Bounds
 }
 
 fn ask(q: Question, verbs: &[u8], points: &[f32]) -> Answer
-    ensures { λ r. ⌜ r ≡ answered q (now (verbs .entry)) (now (points .entry)) ⌝ }
+    ensures { λ r. ⌜ r ≡ answerTo q (now (verbs .entry)) (now (points .entry)) ⌝ }
 {
     let refused = path::check(verbs, points);
     if refused != 0 {
@@ -110,14 +110,14 @@ fn ask(q: Question, verbs: &[u8], points: &[f32]) -> Answer
 
 // Whether every point of a path is a place: no NaN, no infinity.
 pub fn is_finite(verbs: &[u8], points: &[f32]) -> Answer
-    ensures { λ r. ⌜ r ≡ answered Finite (now (verbs .entry)) (now (points .entry)) ⌝ }
+    ensures { λ r. ⌜ r ≡ answerTo Finite (now (verbs .entry)) (now (points .entry)) ⌝ }
 {
     ask(Question::Finite, verbs, points)
 }
 
 // Whether every coordinate of a path is small enough to tessellate.
 pub fn is_within_tessellation_range(verbs: &[u8], points: &[f32]) -> Answer
-    ensures { λ r. ⌜ r ≡ answered InRange (now (verbs .entry)) (now (points .entry)) ⌝ }
+    ensures { λ r. ⌜ r ≡ answerTo InRange (now (verbs .entry)) (now (points .entry)) ⌝ }
 {
     ask(Question::InRange, verbs, points)
 }

@@ -1,5 +1,5 @@
 // What the calls answer. `refused` is the number of a refusal, 0 for none.
-use path::Rect;
+use rect::Rect;
 
 #[repr(C)]
 pub struct Bounds {

@@ -10,11 +10,12 @@ use lib.Ieee.{Float}
 use Rattle.vec2.specs.declared.Vec2.{Vec2}
 use Rattle.path.specs.declared.Segment.{Segment}
 use Rattle.path.specs.declared.Segment.the-variants.{Quad}
-use Rattle.conic.specs.Conic.{straight, quads}
-use Rattle.conic.proofs.Laws.{Quads, one, more, quads-quads, quads-least, quads-most}
+use Rattle.halves.specs.Conic.{straight, quads}
+use Rattle.halves.proofs.Laws.{Quads, one, more, quads-quads, quads-least, quads-most}
+use Rattle.drawing.specs.Lay.{opening}
 use Rattle.builder.specs.declared.PathBuilder.{PathBuilder}
 use Rattle.builder.specs.declared.Call.the-variants.{ConicTo}
-use Rattle.builder.specs.Call.{opening, from, conicSegs, lays}
+use Rattle.builder.specs.Call.{from, conicSegs, lays}
 use Rattle.builder.specs.Build.{quadsLaid}
 use Rattle.builder.specs.Laid.{Laid, put, puts, some, lay}
 

@@ -6,10 +6,11 @@ use mathlib.Core.Bool.{Bool, true, false, cond}
 use mathlib.Core.List.{List, [], _∷_, _++_, append-assoc, append-nil}
 use Prim.Native.Nat.{ℕ, zero, suc, _+_, _*_, _≤_}
 use native.Mathlib.Omega.{arith}
-use lib.ListN.{length, take, drop, length-append}
-use lib.Seq.{sets, sets-eq, length-sets, take-at, length-take-le}
+use lib.ListN.{length, take, length-append}
+use lib.Seq.{length-sets}
 use lib.Ieee.{Float}
 use Rattle.vec2.specs.Points.{flat}
+use Rattle.vec2.proofs.Lists.{take-stored}
 use Rattle.vec2.proofs.Points.{flat-append, length-flat}
 use Rattle.path.specs.declared.Segment.{Segment}
 use Rattle.path.specs.declared.Segment.the-variants.{Move, Line, Quad, Cubic, Close}
@@ -20,18 +21,10 @@ use Rattle.builder.specs.declared.PathBuilder.{PathBuilder}
 use Rattle.builder.specs.declared.Call.{Call}
 use Rattle.builder.specs.declared.Call.the-variants.{MoveTo, LineTo, QuadTo, ConicTo, CubicTo, Close as CloseIt, WithFillRule, AsRoundedRect}
 use Rattle.builder.specs.Call.{lays}
-use Rattle.builder.specs.Build.{startOf, penOf, step, steps, ruledBy, notedAs, told, finiteBox, refusal, new, Built, pushedBy, pushed, called, call, left, run, refusals, over}
+use Rattle.builder.specs.Build.{startOf, penOf, step, steps, ruledBy, notedAs, setBy, finiteBox, refusal, new, Built, pushedBy, pushed, called, call, leftBy, run, refusals, freshOver}
 use Rattle.builder.specs.Laid.{Laid, nothing, put, puts, some, lay, feed, laidFrom, laidBy, pathVerbs, pathFloats}
 use Rattle.builder.specs.Room.{Room}
 use Rattle.builder.proofs.Laws.{refusal-room}
-
--- what is filled, after a store at its end
-take-sets : {A : Type 0} (l : List A) (i : ℕ) (xs : List A) (j : ℕ) → j ≡ i + length xs → j ≤ length l → take j (sets l i xs) ≡ take i l ++ xs
-take-sets l i xs j e h =
-    let fit : i + length xs ≤ length l = omega arith in
-    rw (sets-eq xs l i fit)
-    (take-at (take i l ++ xs) (drop (i + length xs) l) j
-    (length-append (take i l) xs ∙ rw (length-take-le i l (omega arith)) (sym e)))
 
 -- ---- what holds between a builder and the laid list
 
@@ -99,7 +92,7 @@ steps-counts (x ∷ xs) b =
 module _ (b : Built) (l : Laid) (i : Inv b l) where
   -- segments that have room
   grow : (q : ℕ) (ss : List Segment) → Room (b .state) (length (b .bytes)) (length (b .floats)) (length ss) (length (allPoints ss)) →
-      Inv (left (pushedBy 0 q (b .state) (b .bytes) (b .floats) ss)) (puts l ss)
+      Inv (leftBy (pushedBy 0 q (b .state) (b .bytes) (b .floats) ss)) (puts l ss)
   grow q ss r =
       let n = steps-counts ss (b .state) in
       let e = puts-segs ss l in
@@ -107,10 +100,10 @@ module _ (b : Built) (l : Laid) (i : Inv b l) where
         fit-verbs = rw length-sets (omega arith);
         fit-points = rw length-sets (omega arith);
         verbs =
-            take-sets (b .bytes) (b .state .verbs) (bytesOf ss) (steps (b .state) ss .verbs) (omega (arith, length-bytes ss)) (omega arith)
+            take-stored (b .bytes) (b .state .verbs) (bytesOf ss) (steps (b .state) ss .verbs) (omega (arith, length-bytes ss)) (omega arith)
             ∙ rw (i .verbs, e, bytesOf-append (l .segs) ss);
         points =
-            take-sets (b .floats) (2 * b .state .points) (flat (allPoints ss)) (2 * steps (b .state) ss .points) (omega (arith, length-flat (allPoints ss))) (omega arith)
+            take-stored (b .floats) (2 * b .state .points) (flat (allPoints ss)) (2 * steps (b .state) ss .points) (omega (arith, length-flat (allPoints ss))) (omega arith)
             ∙ rw (i .points, e, allPoints-append (l .segs) ss, flat-append (allPoints (l .segs)) (allPoints ss));
         few-verbs = omega arith;
         few-points = omega arith;
@@ -123,7 +116,7 @@ module _ (b : Built) (l : Laid) (i : Inv b l) where
 
   -- refused or not
   fed-by : (n q : ℕ) (c : Call) → refusal (b .state) (length (b .bytes)) (length (b .floats)) (length (new (b .state) c)) (length (allPoints (new (b .state) c))) ≡ n →
-      Inv (left (pushedBy n q (b .state) (b .bytes) (b .floats) (new (b .state) c))) (feed n l c)
+      Inv (leftBy (pushedBy n q (b .state) (b .bytes) (b .floats) (new (b .state) c))) (feed n l c)
   unfolding lay
   fed-by zero q c e = rw (← agree c) (grow q (new (b .state) c) (refusal-room (b .state) _ _ _ _ e))
   fed-by (suc n) q c e = i
@@ -147,8 +140,8 @@ module _ (b : Built) (l : Laid) (i : Inv b l) where
   noted-still true s u h k = h
   noted-still false s u h k = k
 
-  fed : (c : Call) → Inv (left (call b c)) (feed (call b c .reply .refused) l c)
-  unfolding called pushed lays lay puts told
+  fed : (c : Call) → Inv (leftBy (call b c)) (feed (call b c .reply .refused) l c)
+  unfolding called pushed lays lay puts setBy
   fed (MoveTo p) = fed-by _ 0 (MoveTo p) refl
   fed (LineTo p) = fed-by _ 0 (LineTo p) refl
   fed (QuadTo c p) = fed-by _ 0 (QuadTo c p) refl
@@ -163,9 +156,9 @@ module _ (b : Built) (l : Laid) (i : Inv b l) where
 pub ran : (cs : List Call) (b : Built) (l : Laid) → Inv b l → Inv (run b cs) (laidFrom l cs (refusals b cs))
 unfolding run refusals laidFrom
 ran [] b l i = i
-ran (c ∷ cs) b l i = ran cs (left (call b c)) (feed (call b c .reply .refused) l c) (fed b l i c)
+ran (c ∷ cs) b l i = ran cs (leftBy (call b c)) (feed (call b c .reply .refused) l c) (fed b l i c)
 
-pub begins : (bs : List ℕ) (fs : List Float) → Inv (over bs fs) nothing
+pub begins : (bs : List ℕ) (fs : List Float) → Inv (freshOver bs fs) nothing
 begins bs fs =
     record {
       fit-verbs = omega arith;
@@ -182,5 +175,5 @@ reads : (b : Built) (l : Laid) → Inv b l → segments (pathVerbs b) (pathFloat
 reads b l i = rw (i .verbs, i .points) (segments-code (l .segs))
 
 pub built : (cs : List Call) (bs : List ℕ) (fs : List Float) →
-    segments (pathVerbs (run (over bs fs) cs)) (pathFloats (run (over bs fs) cs)) ≡ laidBy cs bs fs
-built cs bs fs = reads (run (over bs fs) cs) _ (ran cs (over bs fs) nothing (begins bs fs))
+    segments (pathVerbs (run (freshOver bs fs) cs)) (pathFloats (run (freshOver bs fs) cs)) ≡ laidBy cs bs fs
+built cs bs fs = reads (run (freshOver bs fs) cs) _ (ran cs (freshOver bs fs) nothing (begins bs fs))

@@ -1,14 +1,14 @@
 -- A list laid behind what stands, by code that stores segment by segment, and the state behind it.
---     begun-nil, begun-more     nothing laid; one list laid behind another
 --     opened                    the state behind what a drawn call lays
---     replied, drawn-done       the whole outcome of a call; of a drawn one
---     bend-done, bend-free      that of a conic that was measured, and of one that need not be
+--     replied, laid-done        the whole outcome of a call; of a drawn one
+--     line-called …             of a line, a quad, a cubic
+--     bend-refused, bend-done   that of a conic that is a curve
 -- Assumes nothing.
-use mathlib.Core.Path.{_≡_, refl, sym, ap, subst, _∙_}
+use mathlib.Core.Path.{_≡_, refl, sym, ap, _∙_}
 use mathlib.Core.Bool.{Bool, true, false}
 use mathlib.Core.List.{List, [], _∷_, _++_}
-use Prim.Native.Nat.{ℕ, zero, suc, _+_, _*_, _≤_}
-use native.Mathlib.Nat.{zero-add, add-zero, add-assoc}
+use Prim.Native.Nat.{ℕ, _+_, _*_}
+use native.Mathlib.Nat.{zero-add, add-assoc}
 use native.Mathlib.Omega.{arith}
 use lib.ListN.{length, length-append}
 use lib.Seq.{sets}
@@ -16,49 +16,30 @@ use lib.Ieee.{Float}
 use Rattle.vec2.specs.declared.Vec2.{Vec2}
 use Rattle.vec2.specs.Vec2.{origin}
 use Rattle.vec2.specs.Points.{flat}
-use Rattle.vec2.proofs.Points.{flat-append, length-flat, sets-append}
 use Rattle.path.specs.declared.Segment.{Segment}
 use Rattle.path.specs.declared.Segment.the-variants.{Move, Line, Quad, Cubic}
 use Rattle.path.specs.Segment.{bytesOf, allPoints}
-use Rattle.path.proofs.Encoded.{bytesOf-append, allPoints-append, length-bytes}
-use Rattle.conic.specs.Conic.{straight, quads}
+use Rattle.path.proofs.Encoded.{allPoints-append}
+use Rattle.halves.specs.Conic.{mostQuads, straight, quads}
 use Rattle.conic.specs.Lay.{Bent}
-use Rattle.conic.proofs.Laws.{Quads, one, more, quads-quads, quads-points, quads-most}
-use Rattle.builder.specs.declared.Call.{Call}
-use Rattle.builder.specs.declared.Call.the-variants.{LineTo, ConicTo}
+use Rattle.halves.proofs.Laws.{Quads, one, more, quads-quads, quads-points, quads-most}
+use Rattle.store.specs.Store.{unless}
+use Rattle.store.proofs.Laws.{unless-not, unless-same}
+use Rattle.store.proofs.Stored.{stored-nil, stored-more}
+use Rattle.drawing.specs.Lay.{opening, lead, Drawn}
+use Rattle.drawing.proofs.Laws.{lead-length, lead-points}
+use Rattle.builder.specs.declared.Call.the-variants.{LineTo, QuadTo, ConicTo, CubicTo}
 use Rattle.builder.specs.declared.PathBuilder.{PathBuilder}
 use Rattle.builder.specs.declared.Reply.{Reply}
-use Rattle.builder.specs.Call.{opening, lead, from, lays}
-use Rattle.builder.specs.Build.{startOf, moved, step, steps, refusal, unless, Outcome, outcome, pushedBy, pushed, quadsLaid, called, penOf}
-use Rattle.builder.proofs.Laws.{unless-not, refusal-as, refusal-room, refusal-less, room-less}
-use Rattle.builder.specs.Room.{Room, Free, Begun, drawnBy, repliedBy}
+use Rattle.builder.specs.Call.{from, lays}
+use Rattle.builder.specs.Build.{startOf, moved, step, steps, refusal, Outcome, outcome, pushedBy, pushed, quadsLaid, called, penOf}
+use Rattle.builder.proofs.Laws.{refusal-as, refusal-less}
+use Rattle.builder.specs.Room.{Begun, drawnBy, repliedBy}
 
 -- ---- the buffers
 
 pub begun-nil : (n : ℕ) (b : PathBuilder) (vs : List ℕ) (fs : List Float) → Begun n b vs fs [] vs fs
-begun-nil zero b vs fs = record { bytes = refl; floats = refl }
-begun-nil (suc n) b vs fs = record { bytes = refl; floats = refl }
-
-pub begun-as : {n : ℕ} {b : PathBuilder} {vs vs' : List ℕ} {fs fs' : List Float} {ss ts : List Segment} → ss ≡ ts → Begun n b vs fs ss vs' fs' → Begun n b vs fs ts vs' fs'
-begun-as {n} {b} {vs} {vs'} {fs} {fs'} e g = subst (λ (l : List Segment). Begun n b vs fs l vs' fs') e g
-
--- l verbs and l points stand, and ts goes behind them
-pub begun-more : (n : ℕ) (b : PathBuilder) (vs : List ℕ) (fs : List Float) (ss ts : List Segment) (l : ℕ) {vs' vs'' : List ℕ} {fs' fs'' : List Float} →
-    l ≡ length ss → l ≡ length (allPoints ss) → Begun n b vs fs ss vs' fs' →
-    vs'' ≡ unless n vs' (sets vs' (b .verbs + l) (bytesOf ts)) → fs'' ≡ unless n fs' (sets fs' (2 * (b .points + l)) (flat (allPoints ts))) →
-    Begun n b vs fs (ss ++ ts) vs'' fs''
-begun-more zero b vs fs ss ts l hv hk g ev ef =
-    let i : b .verbs + l ≡ b .verbs + length (bytesOf ss) = omega (arith, hv, length-bytes ss) in
-    let j : 2 * (b .points + l) ≡ 2 * b .points + length (flat (allPoints ss)) = omega (arith, hk, length-flat (allPoints ss)) in
-    record {
-      bytes = ev ∙ rw (g .bytes, i, bytesOf-append ss ts, sets-append (bytesOf ss) (bytesOf ts) vs (b .verbs));
-      floats = ef ∙ rw (g .floats, j, allPoints-append ss ts, flat-append (allPoints ss) (allPoints ts), sets-append (flat (allPoints ss)) (flat (allPoints ts)) fs (2 * b .points));
-    }
-begun-more (suc n) b vs fs ss ts l hv hk g ev ef = record { bytes = ev ∙ g .bytes; floats = ef ∙ g .floats }
-
-pub begun-one : (n : ℕ) (b : PathBuilder) (vs : List ℕ) (fs : List Float) (ts : List Segment) {vs' : List ℕ} {fs' : List Float} →
-    vs' ≡ unless n vs (sets vs (b .verbs + 0) (bytesOf ts)) → fs' ≡ unless n fs (sets fs (2 * (b .points + 0)) (flat (allPoints ts))) → Begun n b vs fs ts vs' fs'
-begun-one n b vs fs ts ev ef = begun-more n b vs fs [] ts 0 refl refl (begun-nil n b vs fs) ev ef
+begun-nil n b vs fs = stored-nil n (b .verbs) (b .points) vs fs
 
 -- ---- the state
 
@@ -77,10 +58,6 @@ opened : (t : Bool) (b : PathBuilder) (ts : List Segment) (v k : ℕ) (p : Vec2)
 unfolding steps
 opened true b ts v k p d = rw (zero-add v, zero-add k) (d b)
 opened false b ts v k p d = d (step b (Move origin)) ∙ moved-twice b 1 1 v k origin origin origin p
-
-pub lead-few : (t : Bool) → lead t ≤ 1
-lead-few true = omega arith
-lead-few false = omega arith
 
 pub draws-line : (p : Vec2) → Draws (Line p ∷ []) 1 1 p
 unfolding steps
@@ -104,14 +81,6 @@ draws-quads t qs (more a p rs h) c =
 pub drawn-as : (n q : ℕ) (b : PathBuilder) (v k : ℕ) (p : Vec2) {l : ℕ} {a : Vec2} → l ≡ lead (b .started) → a ≡ from (b .started) (startOf b) →
     repliedBy n q b (moved b (l + v) (l + k) a p) ≡ repliedBy n q b (drawnBy b v k p)
 drawn-as n q b v k p e d = rw (e, d)
-
-lead-length : (t : Bool) → lead t ≡ length (opening t)
-lead-length true = refl
-lead-length false = refl
-
-lead-points : (t : Bool) → lead t ≡ length (allPoints (opening t))
-lead-points true = refl
-lead-points false = refl
 
 -- ---- the outcome
 
@@ -144,20 +113,49 @@ module _ (q : ℕ) (b : PathBuilder) (vs : List ℕ) (fs : List Float) (ts : Lis
   points-all : length (allPoints (opening (b .started) ++ ts)) ≡ lead (b .started) + length (allPoints ts)
   points-all = rw (allPoints-append (opening (b .started)) ts) (omega (arith, length-append (allPoints (opening (b .started))) (allPoints ts), lead-points (b .started)))
 
+  pub laid-done : (n v k : ℕ) (p : Vec2) {r : Reply} {q' : ℕ} {vs' : List ℕ} {fs' : List Float} →
+      v ≡ length ts → k ≡ length (allPoints ts) → Draws ts v k p →
+      n ≡ refusal b (length vs) (length fs) (lead (b .started) + v) (lead (b .started) + k) → Begun n b vs fs (opening (b .started) ++ ts) vs' fs' →
+      r ≡ repliedBy n q' b (drawnBy b v k p) → q' ≡ unless n 0 q →
+      outcome r vs' fs' ≡ pushed q b vs fs (opening (b .started) ++ ts)
+  laid-done n v k p {r} {q'} hv hk d e g er eq =
+      replied q b vs fs (opening (b .started) ++ ts) n
+      (e ∙ rw (hv, hk, count-all, points-all))
+      (er ∙ ap (λ (s : PathBuilder). repliedBy n q' b s) (sym (opened (b .started) b ts v k p d)))
+      eq
+      g
+
   pub drawn-done : (n : ℕ) (v k l : ℕ) (p : Vec2) {r : Reply} {q' : ℕ} {vs' vs'' : List ℕ} {fs' fs'' : List Float} →
       v ≡ length ts → k ≡ length (allPoints ts) → Draws ts v k p → l ≡ lead (b .started) →
       n ≡ refusal b (length vs) (length fs) (lead (b .started) + v) (lead (b .started) + k) → Begun n b vs fs (opening (b .started)) vs' fs' →
       vs'' ≡ unless n vs' (sets vs' (b .verbs + l) (bytesOf ts)) → fs'' ≡ unless n fs' (sets fs' (2 * (b .points + l)) (flat (allPoints ts))) →
       r ≡ repliedBy n q' b (drawnBy b v k p) → q' ≡ unless n 0 q →
       outcome r vs'' fs'' ≡ pushed q b vs fs (opening (b .started) ++ ts)
-  drawn-done n v k l p {r} {q'} hv hk d hl e g ev ef er eq =
-      replied q b vs fs (opening (b .started) ++ ts) n
-      (e ∙ rw (hv, hk, count-all, points-all))
-      (er ∙ ap (λ (s : PathBuilder). repliedBy n q' b s) (sym (opened (b .started) b ts v k p d)))
-      eq
-      (begun-more n b vs fs (opening (b .started)) ts l (hl ∙ lead-length (b .started)) (hl ∙ lead-points (b .started)) g ev ef)
+  drawn-done n v k l p hv hk d hl e g ev ef er eq =
+      laid-done n v k p hv hk d e
+      (stored-more n (b .verbs) (b .points) vs fs (opening (b .started)) ts l (hl ∙ lead-length (b .started)) (hl ∙ lead-points (b .started)) g ev ef) er eq
+
+-- a line, a quad, a cubic, as they were laid
+
+module _ (b : PathBuilder) (vs : List ℕ) (fs : List Float) (n : ℕ) {r : Reply} {vs' : List ℕ} {fs' : List Float} where
+  pub line-called : (p : Vec2) → Drawn n (b .started) (b .verbs) (b .points) vs fs (Line p ∷ []) vs' fs' → r ≡ repliedBy n 0 b (drawnBy b 1 1 p) → outcome r vs' fs' ≡ called b vs fs (LineTo p)
+  unfolding called lays quadsLaid refusal
+  line-called p d er = laid-done 0 b vs fs (Line p ∷ []) n 1 1 p refl refl (draws-line p) (d .number) (d .stored) er (unless-same n 0)
+
+  pub quad-called : (c p : Vec2) → Drawn n (b .started) (b .verbs) (b .points) vs fs (Quad c p ∷ []) vs' fs' → r ≡ repliedBy n 0 b (drawnBy b 1 2 p) → outcome r vs' fs' ≡ called b vs fs (QuadTo c p)
+  unfolding called lays quadsLaid refusal
+  quad-called c p d er = laid-done 0 b vs fs (Quad c p ∷ []) n 1 2 p refl refl (draws-quad c p) (d .number) (d .stored) er (unless-same n 0)
+
+  pub cubic-called : (c d p : Vec2) → Drawn n (b .started) (b .verbs) (b .points) vs fs (Cubic c d p ∷ []) vs' fs' → r ≡ repliedBy n 0 b (drawnBy b 1 3 p) → outcome r vs' fs' ≡ called b vs fs (CubicTo c d p)
+  unfolding called lays quadsLaid refusal
+  cubic-called c d p g er = laid-done 0 b vs fs (Cubic c d p ∷ []) n 1 3 p refl refl (draws-cubic c d p) (g .number) (g .stored) er (unless-same n 0)
 
 -- ---- conics
+
+-- no conic is refused where any has room
+pub bend-asked : (b : PathBuilder) (nv nf : ℕ) (a c t : Vec2) (w : Float) → refusal b nv nf (lead (b .started) + mostQuads) (lead (b .started) + 2 * mostQuads) ≡ 0
+    → 0 ≡ refusal b nv nf (lead (b .started) + length (quads a c t w)) (lead (b .started) + 2 * length (quads a c t w))
+bend-asked b nv nf a c t w h = let m = quads-most a c t w in refusal-less b nv nf _ _ _ _ (omega (arith, m)) (omega (arith, m)) h
 
 module _ (b : PathBuilder) (vs : List ℕ) (fs : List Float) (a c t : Vec2) (w : Float) (n : ℕ)
     (asked : n ≡ refusal b (length vs) (length fs) (lead (b .started) + length (quads a c t w)) (lead (b .started) + 2 * length (quads a c t w))) where
@@ -186,36 +184,3 @@ module _ (b : PathBuilder) (vs : List ℕ) (fs : List Float) (c t : Vec2) (w : F
       pushed (length (quads (from (b .started) (penOf b)) c t w)) b vs fs (opening (b .started) ++ quads (from (b .started) (penOf b)) c t w) ≡ called b vs fs (ConicTo c t w)
   unfolding called lays quadsLaid
   conic-bend e = rw e
-
--- a conic from a pen that stands, with room for 64 quads
-
-pub free-room : (b : PathBuilder) (nv nf : ℕ) (a c t : Vec2) (w : Float) {s : Bool} → Free b nv nf s → Room b nv nf (length (quads a c t w)) (2 * length (quads a c t w))
-free-room b nv nf a c t w free = room-less (quads-most a c t w) (omega (arith, quads-most a c t w)) (refusal-room b nv nf 64 128 (free .room))
-
-module _ (b : PathBuilder) (vs : List ℕ) (fs : List Float) (c t : Vec2) (w : Float) (free : Free b (length vs) (length fs) (straight c t w)) where
-  no-lead : 0 ≡ lead (b .started)
-  no-lead = rw (free .stands)
-
-  free-asked : (a : Vec2) → 0 ≡ refusal b (length vs) (length fs) (lead (b .started) + length (quads a c t w)) (lead (b .started) + 2 * length (quads a c t w))
-  free-asked a =
-      let m = quads-most a c t w in
-      refusal-less b (length vs) (length fs) 64 128 _ _ (omega (arith, no-lead, m)) (omega (arith, no-lead, m)) (free .room)
-
-  pub bend-free : (q : ℕ) {a s : Vec2} {r : Reply} {vs' : List ℕ} {fs' : List Float} → a ≡ from (b .started) (penOf b) → s ≡ from (b .started) (startOf b) →
-      Bent (quads a c t w) q vs (b .verbs) vs' fs (2 * b .points) fs' → r ≡ repliedBy 0 q b (moved b q (2 * q) s t) →
-      outcome r vs' fs' ≡ called b vs fs (ConicTo c t w)
-  bend-free q {a} {s} {r} {vs'} {fs'} ea es p er =
-      let nothing : [] ≡ opening (b .started) = rw (free .stands) in
-      let at : Bent (quads a c t w) q vs (b .verbs + 0) vs' fs (2 * (b .points + 0)) fs' = rw (add-zero (b .verbs), add-zero (b .points)) p in
-      let answer : r ≡ repliedBy 0 q b (drawnBy b q (2 * q) t) = er ∙ drawn-zero q es in
-      bend-done b vs fs a c t w 0 (free-asked a) 0 q ea refl no-lead (begun-as nothing (begun-nil 0 b vs fs)) at answer ∙ conic-bend b vs fs c t w (free .curved)
-    where
-      drawn-zero : (q : ℕ) {s : Vec2} → s ≡ from (b .started) (startOf b) → repliedBy 0 q b (moved b q (2 * q) s t) ≡ repliedBy 0 q b (drawnBy b q (2 * q) t)
-      drawn-zero q {s} e =
-          let z : repliedBy 0 q b (moved b q (2 * q) s t) ≡ repliedBy 0 q b (moved b (0 + q) (0 + 2 * q) s t) = rw (zero-add q, zero-add (2 * q)) in
-          z ∙ drawn-as 0 q b q (2 * q) t no-lead e
-
--- ---- any call
-
-pub as-called : (b : PathBuilder) (vs : List ℕ) (fs : List Float) {o : Outcome} {c d : Call} → c ≡ d → o ≡ called b vs fs d → o ≡ called b vs fs c
-as-called b vs fs e h = h ∙ ap (λ (c : Call). called b vs fs c) (sym e)

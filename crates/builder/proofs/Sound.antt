@@ -21,7 +21,7 @@ use Rattle.path.proofs.Encoded.{length-bytes}
 use Rattle.builder.specs.declared.Call.{Call}
 use Rattle.builder.specs.declared.Call.the-variants.{MoveTo, LineTo, QuadTo, ConicTo, CubicTo, Close as CloseIt, WithFillRule, AsRoundedRect}
 use Rattle.builder.specs.Call.{lays}
-use Rattle.builder.specs.Build.{Built, run, over, refusals}
+use Rattle.builder.specs.Build.{Built, run, freshOver, refusals}
 use Rattle.builder.specs.Laid.{Laid, nothing, some, lay, feed, laidFrom, pathVerbs, pathFloats}
 use Rattle.builder.proofs.Kept.{Inv, ran, begins, puts-segs}
 
@@ -115,11 +115,11 @@ points-laid b l i =
     = ap length (sym (i .points)) ∙ length-take-le (2 * b .state .points) (b .floats) (i .fit-points) in
     omega (arith, length-flat (allPoints (l .segs)))
 
-pub good : (cs : List Call) (bs : List ℕ) (fs : List Float) → badPath (pathVerbs (run (over bs fs) cs)) (pathFloats (run (over bs fs) cs)) ≡ 0
+pub good : (cs : List Call) (bs : List ℕ) (fs : List Float) → badPath (pathVerbs (run (freshOver bs fs) cs)) (pathFloats (run (freshOver bs fs) cs)) ≡ 0
 good cs bs fs =
-    let b : Built = run (over bs fs) cs in
-    let l : Laid = laidFrom nothing cs (refusals (over bs fs) cs) in
-    let i : Inv b l = ran cs (over bs fs) nothing (begins bs fs) in
+    let b : Built = run (freshOver bs fs) cs in
+    let l : Laid = laidFrom nothing cs (refusals (freshOver bs fs) cs) in
+    let i : Inv b l = ran cs (freshOver bs fs) nothing (begins bs fs) in
     rw (i .verbs, i .points)
-    (code-good (l .segs) (laid-begins cs (refusals (over bs fs) cs) nothing tt)
+    (code-good (l .segs) (laid-begins cs (refusals (freshOver bs fs) cs) nothing tt)
     (omega (arith, i .few-verbs, verbs-laid b l i)) (omega (arith, i .few-points, points-laid b l i)))

@@ -1,10 +1,9 @@
 -- The builder: its state, and what each call answers and leaves in the two lent buffers ("Builder" and "Numbers" of the scope). Definitions only.
-use Prim.Native.Nat.{ℕ, zero, suc, _+_, _*_, _/_, _%_, min}
-use mathlib.Core.Bool.{Bool, true, false, not, _&&_, _||_, Bool·beq, cond}
+use Prim.Native.Nat.{ℕ, _+_, _*_}
+use mathlib.Core.Bool.{Bool, true, false, _&&_, cond}
 use mathlib.Core.List.{List, [], _∷_}
 use lib.ListN.{length}
 use lib.Seq.{sets}
-use lib.Dec.{ltb, eqb}
 use lib.Ieee.{Float}
 use Rattle.float.specs.Arith.{f0}
 use Rattle.float.specs.Small.{isFinite, maximum}
@@ -16,8 +15,9 @@ use Rattle.path.specs.declared.Segment.the-variants.{Move, Line, Quad, Cubic, C
 use Rattle.path.specs.declared.FillRule.{FillRule}
 use Rattle.path.specs.declared.FillRule.the-variants.{NonZero}
 use Rattle.path.specs.Segment.{bytesOf, allPoints}
-use Rattle.path.specs.Check.{maxVerbs, maxPoints}
-use Rattle.conic.specs.Conic.{straight, quads}
+use Rattle.halves.specs.Conic.{straight, quads}
+use Rattle.store.specs.Refusal.{refusalOf}
+use Rattle.store.specs.Store.{unless}
 use Rattle.builder.specs.declared.PathBuilder.{PathBuilder}
 use Rattle.builder.specs.declared.Reply.{Reply}
 use Rattle.builder.specs.declared.Call.{Call}
@@ -130,15 +130,15 @@ unfoldable pub finiteBox : Vec2 → Vec2 → Float → Bool
 finiteBox lo hi r = allFinite lo && (allFinite hi && isFinite r)
 
 -- the fill rule and the note; a non-finite number records nothing and clears an earlier note
-unfoldable pub told : PathBuilder → Call → PathBuilder
-told b (MoveTo p) = b
-told b (LineTo p) = b
-told b (QuadTo c p) = b
-told b (ConicTo c p w) = b
-told b (CubicTo c d p) = b
-told b CloseIt = b
-told b (WithFillRule r) = ruledBy b r
-told b (AsRoundedRect x r) = cond (finiteBox (x .min) (x .max) r) (notedAs b true (x .min) (x .max) (maximum r f0)) (notedAs b false origin origin f0)
+unfoldable pub setBy : PathBuilder → Call → PathBuilder
+setBy b (MoveTo p) = b
+setBy b (LineTo p) = b
+setBy b (QuadTo c p) = b
+setBy b (ConicTo c p w) = b
+setBy b (CubicTo c d p) = b
+setBy b CloseIt = b
+setBy b (WithFillRule r) = ruledBy b r
+setBy b (AsRoundedRect x r) = cond (finiteBox (x .min) (x .max) r) (notedAs b true (x .min) (x .max) (maximum r f0)) (notedAs b false origin origin f0)
 
 -- ---- questions
 
@@ -161,35 +161,11 @@ buffered CloseIt = true
 buffered (WithFillRule r) = false
 buffered (AsRoundedRect x r) = false
 
--- what buffers of nv bytes and of nf floats hold, inside the limits
-unfoldable pub verbCap : ℕ → ℕ
-verbCap nv = min nv maxVerbs
-
-unfoldable pub pointCap : ℕ → ℕ
-pointCap nf = min (nf / 2) maxPoints
-
--- 7: counts over the buffers or limits, which hold v verbs and k points; "started" not equal to having a verb; started without a point
-unfoldable pub badState : PathBuilder → ℕ → ℕ → Bool
-badState b v k =
-    ltb v (b .verbs)
-    || (ltb k (b .points) || (not (Bool·beq (b .started) (ltb 0 (b .verbs))) || (b .started && eqb (b .points) 0)))
-
--- 2: v more verbs or k more points than the buffers or limits have left
-unfoldable pub noRoom : PathBuilder → ℕ → ℕ → ℕ → ℕ → Bool
-noRoom b nv nk v k = ltb nv (b .verbs + v) || ltb nk (b .points + k)
-
 -- the number that a call of v verbs and k points is refused with, or 0
 unfoldable pub refusal : PathBuilder → ℕ → ℕ → ℕ → ℕ → ℕ
-refusal b nv nf v k =
-    cond (eqb (nf % 2) 1) 1
-    (cond (badState b (verbCap nv) (pointCap nf)) 7 (cond (noRoom b (verbCap nv) (pointCap nf) v k) 2 0))
+refusal b nv nf v k = refusalOf (b .verbs) (b .points) (b .started) nv nf v k
 
 -- ---- a call
-
--- what was, where the number refuses; what is new, where it is 0
-abbrev pub unless : {A : Type 0} → ℕ → A → A → A
-unless zero was new = new
-unless (suc n) was new = was
 
 -- the reply, and what both buffers hold afterwards
 pub record Outcome : Type 0 where
@@ -228,12 +204,12 @@ quadsLaid b (WithFillRule r) = 0
 quadsLaid b (AsRoundedRect x r) = 0
 
 -- a call that refuses nothing
-abbrev pub answered : PathBuilder → Reply
-answered b = record { state = b; quads = 0; refused = 0 }
+abbrev pub settled : PathBuilder → Reply
+settled b = record { state = b; quads = 0; refused = 0 }
 
 -- every call: its entire reply and both buffers; the fill rule and the note take no buffer and refuse nothing
 unfoldable pub called : PathBuilder → List ℕ → List Float → Call → Outcome
-called b vs fs c = cond (buffered c) (pushed (quadsLaid b c) b vs fs (new b c)) (outcome (answered (told b c)) vs fs)
+called b vs fs c = cond (buffered c) (pushed (quadsLaid b c) b vs fs (new b c)) (outcome (settled (setBy b c)) vs fs)
 
 -- ---- a list of calls over one pair of buffers
 
@@ -246,18 +222,18 @@ abbrev pub call : Built → Call → Outcome
 call b c = called (b .state) (b .bytes) (b .floats) c
 
 -- each later call gets the state that the one before it returned
-abbrev pub left : Outcome → Built
-left o = record { state = o .reply .state; bytes = o .bytes; floats = o .floats }
+abbrev pub leftBy : Outcome → Built
+leftBy o = record { state = o .reply .state; bytes = o .bytes; floats = o .floats }
 
 unfoldable pub run : Built → List Call → Built
 run b [] = b
-run b (c ∷ cs) = run (left (call b c)) cs
+run b (c ∷ cs) = run (leftBy (call b c)) cs
 
 -- the number that each was refused with
 unfoldable pub refusals : Built → List Call → List ℕ
 refusals b [] = []
-refusals b (c ∷ cs) = call b c .reply .refused ∷ refusals (left (call b c)) cs
+refusals b (c ∷ cs) = call b c .reply .refused ∷ refusals (leftBy (call b c)) cs
 
 -- a fresh builder over lent buffers of any length and content
-abbrev pub over : List ℕ → List Float → Built
-over bs fs = record { state = fresh; bytes = bs; floats = fs }
+abbrev pub freshOver : List ℕ → List Float → Built
+freshOver bs fs = record { state = fresh; bytes = bs; floats = fs }

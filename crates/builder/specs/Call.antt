@@ -1,24 +1,14 @@
 -- What each call of the builder lays: a list of segments ("Builder" and "Conic" of the scope). Definitions only.
 use mathlib.Core.Bool.{Bool, true, false}
 use mathlib.Core.List.{List, [], _∷_, _++_}
-use Prim.Native.Nat.{ℕ}
 use Rattle.vec2.specs.declared.Vec2.{Vec2}
 use Rattle.vec2.specs.Vec2.{origin}
 use Rattle.path.specs.declared.Segment.{Segment}
 use Rattle.path.specs.declared.Segment.the-variants.{Move, Line, Quad, Cubic, Close}
-use Rattle.conic.specs.Conic.{straight, quads}
+use Rattle.halves.specs.Conic.{straight, quads}
+use Rattle.drawing.specs.Lay.{opening}
 use Rattle.builder.specs.declared.Call.{Call}
 use Rattle.builder.specs.declared.Call.the-variants.{MoveTo, LineTo, QuadTo, ConicTo, CubicTo, Close as CloseIt, WithFillRule, AsRoundedRect}
-
--- a drawn verb on an empty builder first lays a move to (0, 0); the Bool says whether a segment stands already
-abbrev pub opening : Bool → List Segment
-opening true = []
-opening false = Move origin ∷ []
-
--- its verbs, and its points
-abbrev pub lead : Bool → ℕ
-lead true = 0
-lead false = 1
 
 -- where a drawn verb begins: at the pen p, or at the move just laid; so too the latest move's point
 abbrev pub from : Bool → Vec2 → Vec2

@@ -11,7 +11,7 @@ use Rattle.path.specs.declared.Segment.{Segment}
 use Rattle.path.specs.declared.Segment.the-variants.{Move, Line, Quad, Cubic, Close}
 use Rattle.builder.specs.declared.Call.{Call}
 use Rattle.builder.specs.Call.{lays}
-use Rattle.builder.specs.Build.{Built, over, refusals}
+use Rattle.builder.specs.Build.{Built, freshOver, refusals}
 
 pub record Laid : Type 0 where
   pub segs : List Segment
@@ -56,7 +56,7 @@ laid cs rs = laidFrom nothing cs rs .segs
 
 -- what a list of calls lays, from a fresh builder over lent buffers of any length and content
 abbrev pub laidBy : List Call → List ℕ → List Float → List Segment
-laidBy cs bs fs = laid cs (refusals (over bs fs) cs)
+laidBy cs bs fs = laid cs (refusals (freshOver bs fs) cs)
 
 -- ---- the path that a builder leaves
 

@@ -1,18 +1,28 @@
 // The path builder: a state by value, verbs and points in two lent buffers.
 ghost use mathlib.Core.Path.{_≡_};
 ghost use mathlib.Core.Bool.{true};
-ghost use mathlib.Core.List.{[], _∷_, _++_};
-ghost use Prim.Native.Nat.{_+_, _*_, _<_, _≤_};
+ghost use mathlib.Core.List.{_++_};
+ghost use Prim.Native.Nat.{_+_, _*_, _≤_};
 ghost use lib.ListN.{length};
-ghost use lib.Seq.{sets};
-ghost use Rattle.vec2.specs.Points.{flat};
-ghost use Rattle.conic.specs.Conic.{straight, quads};
+ghost use Rattle.path.specs.Check.{maxPoints};
+ghost use Rattle.halves.specs.Conic.{mostQuads, quads};
+ghost use Rattle.store.specs.Store.{unless};
+ghost use Rattle.drawing.specs.Lay.{opening, lead};
 ghost use Rattle.builder.specs.declared.Call.the-variants.{MoveTo, LineTo, QuadTo, ConicTo, CubicTo, Close, WithFillRule, AsRoundedRect};
-ghost use Rattle.builder.specs.Call.{opening, lead, from};
-ghost use Rattle.builder.specs.Build.{fresh, startOf, penOf, moved, finiteBox, notedAs, told, currentOf, noteOf, verbCap, pointCap, badState, noRoom, refusal, unless, outcome, pushed, answered, called};
-ghost use Rattle.builder.specs.Room.{Room, Free, Begun, drawnBy, repliedBy};
+ghost use Rattle.builder.specs.Call.{from};
+ghost use Rattle.builder.specs.Build.{fresh, startOf, penOf, moved, finiteBox, notedAs, setBy, currentOf, noteOf, refusal, outcome, pushed, called};
+ghost use Rattle.builder.specs.Room.{Room, Begun, drawnBy, repliedBy};
+use drawing::lay_cubic;
+use drawing::lay_line;
+use drawing::lay_quad;
+use drawing::lead_of;
 use path::FillRule;
-use path::Rect;
+use rect::Rect;
+use store::begun;
+use store::more;
+use store::put_one;
+use store::put_verb;
+use store::unless;
 use vec2::Vec2;
 
 // Counts first, floats next, small fields last: no padding inside. The note's box, which the drawing calls leave alone, is 16 bytes together, and what
@@ -61,161 +71,6 @@ pub enum CurrentPoint {
 pub enum Note {
     Rounded(Rect, f32),
     Unknown,
-}
-
-// ---- refusals
-
-// How many verbs a buffer of n bytes takes.
-fn verb_cap(n: usize) -> usize
-    ensures { λ r. ⌜ r ≡ verbCap n ⌝ }
-{
-    if n < path::MAX_VERBS {
-        n
-    } else {
-        path::MAX_VERBS
-    }
-}
-
-// How many points a buffer of n floats takes.
-fn point_cap(n: usize) -> usize
-    ensures { λ r. ⌜ r ≡ pointCap n ⌝ }
-{
-    let k = n / 2;
-    if k < path::MAX_POINTS {
-        k
-    } else {
-        path::MAX_POINTS
-    }
-}
-
-// The verbs, and points, that are laid before a drawn verb.
-fn lead_of(started: bool) -> usize
-    ensures { λ r. ⌜ r ≡ lead started ⌝ }
-{
-    if started { 0 } else { 1 }
-}
-
-// ---- stores, where n is 0, behind l verbs and l points that were just laid
-
-// A verb without points.
-fn put_verb(n: u8, verb: u8, verbs: &mut [u8], v: usize)
-    requires { ⌜ (n ≡ 0 → v < length (now verbs)) ⌝ }
-    ensures { λ _. ⌜ now (verbs .exit) ≡ unless n (now (verbs .entry)) (sets (now (verbs .entry)) v (verb ∷ [])) ⌝ }
-{
-    if n != 0 {
-        return;
-    }
-    verbs[v] = verb;
-}
-
-// A verb of one point.
-fn put_one(
-    n: u8,
-    verb: u8,
-    p: Vec2,
-    verbs: &mut [u8],
-    v: usize,
-    points: &mut [f32],
-    k: usize,
-    l: usize,
-)
-    requires { ⌜ (n ≡ 0 → (v + l + 1 ≤ length (now verbs)) × (2 * (k + l + 1) ≤ length (now points))) ⌝ }
-    ensures { λ _. ⌜ (now (verbs .exit) ≡ unless n (now (verbs .entry)) (sets (now (verbs .entry)) (v + l) (verb ∷ []))) × (now (points .exit) ≡ unless n (now (points .entry)) (sets (now (points .entry)) (2 * (k + l)) (flat (p ∷ [])))) ⌝ }
-{
-    if n != 0 {
-        return;
-    }
-    let f = 2 * (k + l);
-    verbs[v + l] = verb;
-    points[f] = p.x;
-    points[f + 1] = p.y;
-}
-
-// A quad.
-fn put_two(
-    n: u8,
-    c: Vec2,
-    p: Vec2,
-    verbs: &mut [u8],
-    v: usize,
-    points: &mut [f32],
-    k: usize,
-    l: usize,
-)
-    requires { ⌜ (n ≡ 0 → (v + l + 1 ≤ length (now verbs)) × (2 * (k + l + 2) ≤ length (now points))) ⌝ }
-    ensures { λ _. ⌜ (now (verbs .exit) ≡ unless n (now (verbs .entry)) (sets (now (verbs .entry)) (v + l) (2 ∷ []))) × (now (points .exit) ≡ unless n (now (points .entry)) (sets (now (points .entry)) (2 * (k + l)) (flat (c ∷ p ∷ [])))) ⌝ }
-{
-    if n != 0 {
-        return;
-    }
-    let f = 2 * (k + l);
-    verbs[v + l] = 2;
-    points[f] = c.x;
-    points[f + 1] = c.y;
-    points[f + 2] = p.x;
-    points[f + 3] = p.y;
-}
-
-// A cubic.
-fn put_three(
-    n: u8,
-    c: Vec2,
-    d: Vec2,
-    p: Vec2,
-    verbs: &mut [u8],
-    v: usize,
-    points: &mut [f32],
-    k: usize,
-    l: usize,
-)
-    requires { ⌜ (n ≡ 0 → (v + l + 1 ≤ length (now verbs)) × (2 * (k + l + 3) ≤ length (now points))) ⌝ }
-    ensures { λ _. ⌜ (now (verbs .exit) ≡ unless n (now (verbs .entry)) (sets (now (verbs .entry)) (v + l) (3 ∷ []))) × (now (points .exit) ≡ unless n (now (points .entry)) (sets (now (points .entry)) (2 * (k + l)) (flat (c ∷ d ∷ p ∷ [])))) ⌝ }
-{
-    if n != 0 {
-        return;
-    }
-    let f = 2 * (k + l);
-    verbs[v + l] = 3;
-    points[f] = c.x;
-    points[f + 1] = c.y;
-    points[f + 2] = d.x;
-    points[f + 3] = d.y;
-    points[f + 4] = p.x;
-    points[f + 5] = p.y;
-}
-
-// ---- one field of the state: what it was, where n refuses, else what is new
-
-fn either(n: u8, was: f32, new: f32) -> f32
-    ensures { λ r. ⌜ r ≡ unless n was new ⌝ }
-{
-    if n != 0 { was } else { new }
-}
-
-fn more(n: u8, was: usize, k: usize) -> usize
-    requires { ⌜ (n ≡ 0 → was + k ≤ 131072) ⌝ }
-    ensures { λ r. ⌜ r ≡ unless n was (was + k) ⌝ }
-{
-    if n != 0 {
-        return was;
-    }
-    was + k
-}
-
-fn begun(n: u8, was: bool) -> bool
-    ensures { λ r. ⌜ r ≡ unless n was true ⌝ }
-{
-    if n != 0 { was } else { true }
-}
-
-fn answer(b: PathBuilder) -> Reply
-    ensures { λ r. ⌜ r ≡ answered b ⌝ }
-{
-    Reply {
-        state: b,
-        quads: 0,
-        refused: 0,
-    }
 }
 
 fn is_finite_box(min: Vec2, max: Vec2, radius: f32) -> bool
@@ -277,7 +132,7 @@ impl PathBuilder {
     }
 
     pub fn with_fill_rule(self, rule: FillRule) -> PathBuilder
-        ensures { λ r. ⌜ r ≡ told self (WithFillRule rule) ⌝ }
+        ensures { λ r. ⌜ r ≡ setBy self (WithFillRule rule) ⌝ }
     {
         PathBuilder {
             verbs: self.verbs,
@@ -312,7 +167,7 @@ impl PathBuilder {
 
     // Records that what was laid is this rounded rectangle; of what isn't finite, nothing.
     pub fn as_rounded_rect(self, rect: Rect, radius: f32) -> PathBuilder
-        ensures { λ r. ⌜ r ≡ told self (AsRoundedRect rect radius) ⌝ }
+        ensures { λ r. ⌜ r ≡ setBy self (AsRoundedRect rect radius) ⌝ }
     {
         let min = Vec2::new(rect.min.x, rect.min.y);
         let max = Vec2::new(rect.max.x, rect.max.y);
@@ -324,54 +179,11 @@ impl PathBuilder {
 
     // ---- refusals
 
-    // 7: a state that buffers for so many verbs and points cannot hold, or whose fields are at odds.
-    fn is_broken(self, verbs: usize, points: usize) -> bool
-        ensures { λ r. ⌜ r ≡ badState self verbs points ⌝ }
-    {
-        let v = self.verbs;
-        let k = self.points;
-        if verbs < v {
-            return true;
-        }
-        if points < k {
-            return true;
-        }
-        if self.started {
-            if v == 0 {
-                return true;
-            }
-            return k == 0;
-        }
-        0 < v
-    }
-
-    // Whether v more verbs or k more points are too many.
-    fn is_full(self, verbs: usize, points: usize, v: usize, k: usize) -> bool
-        requires { ⌜ (self .verbs ≤ verbs) × (self .points ≤ points) ⌝ }
-        ensures { λ r. ⌜ r ≡ noRoom self verbs points v k ⌝ }
-    {
-        if verbs - self.verbs < v {
-            return true;
-        }
-        points - self.points < k
-    }
-
     // The number that refuses a call of v verbs and k points, or 0.
     fn refused(self, verbs: usize, floats: usize, v: usize, k: usize) -> u8
         ensures { λ r. ⌜ r ≡ refusal self verbs floats v k ⌝ }
     {
-        let most_verbs = verb_cap(verbs);
-        let most_points = point_cap(floats);
-        if floats % 2 == 1 {
-            return 1;
-        }
-        if self.is_broken(most_verbs, most_points) {
-            return 7;
-        }
-        if self.is_full(most_verbs, most_points, v, k) {
-            return 2;
-        }
-        0
+        store::refused(self.verbs, self.points, self.started, verbs, floats, v, k)
     }
 
     // ---- what goes before a drawn verb, and the state behind it
@@ -381,19 +193,7 @@ impl PathBuilder {
         requires { ⌜ (n ≡ 0 → Room self (length (now verbs)) (length (now points)) (lead (self .started)) (lead (self .started))) ⌝ }
         ensures { λ _. ⌜ Begun n self (now (verbs .entry)) (now (points .entry)) (opening (self .started)) (now (verbs .exit)) (now (points .exit)) ⌝ }
     {
-        if self.started {
-            return;
-        }
-        put_one(
-            n,
-            0,
-            Vec2::zero(),
-            verbs,
-            self.verbs,
-            points,
-            self.points,
-            0,
-        );
+        drawing::lay_opening(n, self.started, verbs, self.verbs, points, self.points);
     }
 
     // Where a drawn verb begins.
@@ -418,34 +218,23 @@ impl PathBuilder {
 
     // The state behind v verbs and k points, unless n refuses.
     fn after(self, n: u8, v: usize, k: usize, start: Vec2, pen: Vec2) -> PathBuilder
-        requires { ⌜ (n ≡ 0 → (self .verbs + v ≤ 131072) × (self .points + k ≤ 131072)) ⌝ }
+        requires { ⌜ (n ≡ 0 → (self .verbs + v ≤ maxPoints) × (self .points + k ≤ maxPoints)) ⌝ }
         ensures { λ r. ⌜ r ≡ unless n self (moved self v k start pen) ⌝ }
     {
         let mut t = self;
         t.verbs = more(n, self.verbs, v);
         t.points = more(n, self.points, k);
-        t.start_x = either(n, self.start_x, start.x);
-        t.start_y = either(n, self.start_y, start.y);
-        t.pen_x = either(n, self.pen_x, pen.x);
-        t.pen_y = either(n, self.pen_y, pen.y);
+        t.start_x = unless(n, self.start_x, start.x);
+        t.start_y = unless(n, self.start_y, start.y);
+        t.pen_x = unless(n, self.pen_x, pen.x);
+        t.pen_y = unless(n, self.pen_y, pen.y);
         t.started = begun(n, self.started);
         t
     }
 
-    // Refuses a drawn call of v verbs and k points, or lays what goes before them.
-    fn begin(self, verbs: &mut [u8], points: &mut [f32], v: usize, k: usize) -> u8
-        requires { ⌜ (v ≤ 64) × (k ≤ 128) ⌝ }
-        ensures { λ r. ⌜ (r ≡ refusal self (length (now (verbs .entry))) (length (now (points .entry))) (lead (self .started) + v) (lead (self .started) + k)) × Begun r self (now (verbs .entry)) (now (points .entry)) (opening (self .started)) (now (verbs .exit)) (now (points .exit)) ⌝ }
-    {
-        let l = lead_of(self.started);
-        let n = self.refused(verbs.len(), points.len(), l + v, l + k);
-        self.lay_opening(n, verbs, points);
-        n
-    }
-
     // The answer that leaves this state, unless n refuses; apart from the stores, so that the state is copied once.
     fn settle(self, n: u8, v: usize, k: usize, quads: usize, start: Vec2, pen: Vec2) -> Reply
-        requires { ⌜ (n ≡ 0 → (self .verbs + v ≤ 131072) × (self .points + k ≤ 131072)) ⌝ }
+        requires { ⌜ (n ≡ 0 → (self .verbs + v ≤ maxPoints) × (self .points + k ≤ maxPoints)) ⌝ }
         ensures { λ r. ⌜ r ≡ repliedBy n quads self (moved self v k start pen) ⌝ }
     {
         let state = self.after(n, v, k, start, pen);
@@ -469,7 +258,7 @@ impl PathBuilder {
 
     // The answer of a drawn call of v verbs and k points that ends at p.
     fn drawn(self, n: u8, v: usize, k: usize, quads: usize, p: Vec2) -> Reply
-        requires { ⌜ (v ≤ 64) × (k ≤ 128) × (n ≡ 0 → (self .verbs + (lead (self .started) + v) ≤ 131072) × (self .points + (lead (self .started) + k) ≤ 131072)) ⌝ }
+        requires { ⌜ (v ≤ mostQuads) × (k ≤ 2 * mostQuads) × (n ≡ 0 → (self .verbs + (lead (self .started) + v) ≤ maxPoints) × (self .points + (lead (self .started) + k) ≤ maxPoints)) ⌝ }
         ensures { λ r. ⌜ r ≡ repliedBy n quads self (drawnBy self v k p) ⌝ }
     {
         let l = lead_of(self.started);
@@ -491,18 +280,22 @@ impl PathBuilder {
     pub fn line_to(self, verbs: &mut [u8], points: &mut [f32], p: Vec2) -> Reply
         ensures { λ r. ⌜ outcome r (now (verbs .exit)) (now (points .exit)) ≡ called self (now (verbs .entry)) (now (points .entry)) (LineTo p) ⌝ }
     {
-        let n = self.begin(verbs, points, 1, 1);
-        let l = lead_of(self.started);
-        put_one(n, 1, p, verbs, self.verbs, points, self.points, l);
+        let n = lay_line(self.started, verbs, self.verbs, points, self.points, p);
         self.drawn(n, 1, 1, 0, p)
     }
 
     pub fn quad_to(self, verbs: &mut [u8], points: &mut [f32], ctrl: Vec2, to: Vec2) -> Reply
         ensures { λ r. ⌜ outcome r (now (verbs .exit)) (now (points .exit)) ≡ called self (now (verbs .entry)) (now (points .entry)) (QuadTo ctrl to) ⌝ }
     {
-        let n = self.begin(verbs, points, 1, 2);
-        let l = lead_of(self.started);
-        put_two(n, ctrl, to, verbs, self.verbs, points, self.points, l);
+        let n = lay_quad(
+            self.started,
+            verbs,
+            self.verbs,
+            points,
+            self.points,
+            ctrl,
+            to,
+        );
         self.drawn(n, 1, 2, 0, to)
     }
 
@@ -516,9 +309,16 @@ impl PathBuilder {
     ) -> Reply
         ensures { λ r. ⌜ outcome r (now (verbs .exit)) (now (points .exit)) ≡ called self (now (verbs .entry)) (now (points .entry)) (CubicTo c0 c1 to) ⌝ }
     {
-        let n = self.begin(verbs, points, 1, 3);
-        let l = lead_of(self.started);
-        put_three(n, c0, c1, to, verbs, self.verbs, points, self.points, l);
+        let n = lay_cubic(
+            self.started,
+            verbs,
+            self.verbs,
+            points,
+            self.points,
+            c0,
+            c1,
+            to,
+        );
         self.drawn(n, 1, 3, 0, to)
     }
 
@@ -536,29 +336,38 @@ impl PathBuilder {
         self.settle(n, 1, 0, 0, start, start)
     }
 
-    // The number that refuses a conic's quads, or 0. They are counted where there is no room for all 64.
-    fn conic_refused(
+    // Whether any conic has room: all 64 quads, behind what goes before them.
+    fn takes_any_conic(self, verbs: usize, floats: usize) -> bool
+        ensures { λ r. ⌜ (r ≡ true → refusal self verbs floats (lead (self .started) + mostQuads) (lead (self .started) + 2 * mostQuads) ≡ 0) ⌝ }
+    {
+        let l = lead_of(self.started);
+        let n = self.refused(verbs, floats, l + conic::MAX_QUADS, l + conic::MAX_POINTS);
+        n == 0
+    }
+
+    // A conic that is a curve, where any has room: its quads are laid straight into the lent buffers, however many they are.
+    fn bend_to(
         self,
-        verbs: usize,
-        floats: usize,
-        start: Vec2,
+        verbs: &mut [u8],
+        points: &mut [f32],
         ctrl: Vec2,
         to: Vec2,
         weight: f32,
-    ) -> u8
-        ensures { λ r. ⌜ r ≡ refusal self verbs floats (lead (self .started) + length (quads start ctrl to weight)) (lead (self .started) + 2 * length (quads start ctrl to weight)) ⌝ }
+    ) -> Reply
+        requires { ⌜ refusal self (length (now verbs)) (length (now points)) (lead (self .started) + mostQuads) (lead (self .started) + 2 * mostQuads) ≡ 0 ⌝ }
+        ensures { λ r. ⌜ outcome r (now (verbs .exit)) (now (points .exit)) ≡ pushed (length (quads (from (self .started) (penOf self)) ctrl to weight)) self (now (verbs .entry)) (now (points .entry)) (opening (self .started) ++ quads (from (self .started) (penOf self)) ctrl to weight) ⌝ }
     {
+        let pen = self.pen();
         let l = lead_of(self.started);
-        let n = self.refused(verbs, floats, l + 64, l + 128);
-        if n == 0 {
-            return 0;
-        }
-        let q = conic::count_quads(start, ctrl, to, weight);
-        self.refused(verbs, floats, l + q, l + 2 * q)
+        let v = self.verbs + l;
+        let f = 2 * (self.points + l);
+        self.lay_opening(0, verbs, points);
+        let q = conic::push_conic(pen, ctrl, to, weight, verbs, v, points, f);
+        self.drawn(0, q, 2 * q, q, to)
     }
 
-    // A conic that is a curve: its quads behind the opening, whole or not at all.
-    fn bend_to(
+    // A conic that is a curve, where it may have no room: its quads are laid apart, and refused by their number or copied, all of them.
+    fn bend_apart(
         self,
         verbs: &mut [u8],
         points: &mut [f32],
@@ -568,21 +377,22 @@ impl PathBuilder {
     ) -> Reply
         ensures { λ r. ⌜ outcome r (now (verbs .exit)) (now (points .exit)) ≡ pushed (length (quads (from (self .started) (penOf self)) ctrl to weight)) self (now (verbs .entry)) (now (points .entry)) (opening (self .started) ++ quads (from (self .started) (penOf self)) ctrl to weight) ⌝ }
     {
-        let start = self.pen();
-        let n = self.conic_refused(verbs.len(), points.len(), start, ctrl, to, weight);
+        let pen = self.pen();
+        let mut apart = [0.0f32; conic::MAX_FLOATS];
+        let q = conic::push_points(pen, ctrl, to, weight, &mut apart, 0);
+        let l = lead_of(self.started);
+        let n = self.refused(verbs.len(), points.len(), l + q, l + 2 * q);
         if n != 0 {
             return self.unmoved(n);
         }
-        let l = lead_of(self.started);
         let v = self.verbs + l;
         let f = 2 * (self.points + l);
         self.lay_opening(0, verbs, points);
-        let q = conic::push_conic(start, ctrl, to, weight, verbs, v, points, f);
+        conic::put_quads(&apart, q, verbs, v, points, f);
         self.drawn(0, q, 2 * q, q, to)
     }
 
-    // A conic, measured first where there may be no room for it.
-    pub fn measured_conic_to(
+    pub fn conic_to(
         self,
         verbs: &mut [u8],
         points: &mut [f32],
@@ -595,74 +405,9 @@ impl PathBuilder {
         if conic::is_straight(ctrl, to, weight) {
             return self.line_to(verbs, points, to);
         }
-        self.bend_to(verbs, points, ctrl, to, weight)
-    }
-
-    // Whether a conic is a curve from a pen that stands, with room for 64 quads: then nothing is left to measure.
-    fn bends_freely(self, verbs: usize, floats: usize, ctrl: Vec2, to: Vec2, weight: f32) -> bool
-        ensures { λ r. ⌜ (r ≡ true → Free self verbs floats (straight ctrl to weight)) ⌝ }
-    {
-        if !self.started {
-            return false;
+        if self.takes_any_conic(verbs.len(), points.len()) {
+            return self.bend_to(verbs, points, ctrl, to, weight);
         }
-        if conic::is_straight(ctrl, to, weight) {
-            return false;
-        }
-        self.refused(verbs, floats, 64, 128) == 0
-    }
-
-    // Such a conic's quads, however many they are.
-    fn bend_freely(
-        self,
-        verbs: &mut [u8],
-        points: &mut [f32],
-        ctrl: Vec2,
-        to: Vec2,
-        weight: f32,
-    ) -> Reply
-        requires { ⌜ Free self (length (now verbs)) (length (now points)) (straight ctrl to weight) ⌝ }
-        ensures { λ r. ⌜ outcome r (now (verbs .exit)) (now (points .exit)) ≡ called self (now (verbs .entry)) (now (points .entry)) (ConicTo ctrl to weight) ⌝ }
-    {
-        let pen = self.pen();
-        let start = self.start();
-        let v = self.verbs;
-        let f = 2 * self.points;
-        let q = conic::push_conic(pen, ctrl, to, weight, verbs, v, points, f);
-        self.settle(0, q, 2 * q, q, start, to)
-    }
-
-    // A conic. What need not be measured is laid here, so that a loop keeps its state in registers; the rest gets a copy of its own.
-    pub fn conic_to(
-        self,
-        verbs: &mut [u8],
-        points: &mut [f32],
-        ctrl: Vec2,
-        to: Vec2,
-        weight: f32,
-    ) -> Reply
-        ensures { λ r. ⌜ outcome r (now (verbs .exit)) (now (points .exit)) ≡ called self (now (verbs .entry)) (now (points .entry)) (ConicTo ctrl to weight) ⌝ }
-    {
-        if self.bends_freely(verbs.len(), points.len(), ctrl, to, weight) {
-            return self.bend_freely(verbs, points, ctrl, to, weight);
-        }
-        let b = self;
-        let reply = b.measured_conic_to(verbs, points, ctrl, to, weight);
-        reply
-    }
-
-    // Any of the calls.
-    pub fn play(self, verbs: &mut [u8], points: &mut [f32], call: Call) -> Reply
-        ensures { λ r. ⌜ outcome r (now (verbs .exit)) (now (points .exit)) ≡ called self (now (verbs .entry)) (now (points .entry)) call ⌝ }
-    {
-        match call {
-            Call::MoveTo(p) => self.move_to(verbs, points, p),
-            Call::LineTo(p) => self.line_to(verbs, points, p),
-            Call::QuadTo(c, p) => self.quad_to(verbs, points, c, p),
-            Call::ConicTo(c, p, w) => self.conic_to(verbs, points, c, p, w),
-            Call::CubicTo(c, d, p) => self.cubic_to(verbs, points, c, d, p),
-            Call::Close => self.close(verbs, points),
-            Call::WithFillRule(rule) => answer(self.with_fill_rule(rule)),
-            Call::AsRoundedRect(rect, radius) => answer(self.as_rounded_rect(rect, radius)),
-        }
+        self.bend_apart(verbs, points, ctrl, to, weight)
     }
 }

@@ -1,14 +1,84 @@
 // Builder calls played: the paper's conic of 64 quads, full buffers, one short of each size, the limits, an odd float buffer, states that 7 meets.
-// A line for each answer: its number, a conic's quads, both counts, whether it is started, the latest move's point and the pen.
+// Standard input has the calls, in lines of 83 bytes: a name that a colon ends, at place 39 a letter, and from place 40 on six fields of 7 bytes, each a
+// sign and a number. A line `B` lends buffers, from a byte to a byte and from a float to a float of those that all calls share, to the lines behind it,
+// and says how many these are. Small letters are calls: `m` move, `l` line, `q` quad, `k` conic, `c` cubic, `z` close. `H` hands in a state: its counts,
+// whether it is started, and the pen; `N` is a fresh one. `R` sets the fill rule and `A` the rounded rectangle; `P` and `T` ask for the point and the
+// rectangle; `S` shows the buffers from a byte and a float on, and `Y` one byte and one float.
+// A line is written for each answer: its number, a conic's quads, both counts, whether it is started, the latest move's point and the pen.
 ghost use Prim.Native.Nat.{_≤_};
-use builder::Call;
 use builder::CurrentPoint;
 use builder::Note;
 use builder::PathBuilder;
 use builder::Reply;
 use path::FillRule;
-use path::Rect;
+use rect::Rect;
 use vec2::Vec2;
+
+// ---- reading
+
+fn char_at(line: &[u8], i: usize) -> u8 {
+    if i < line.len() {
+        return line[i];
+    }
+    b' '
+}
+
+fn digit(b: u8) -> u16
+    ensures { λ r. ⌜ r ≤ 9 ⌝ }
+{
+    if b < b'0' {
+        return 0;
+    }
+    if b'9' < b {
+        return 0;
+    }
+    (b - b'0') as u16
+}
+
+// The number of two digits at i; a space is a 0.
+fn pair(line: &[u8], i: usize) -> u16
+    requires { ⌜ i ≤ 100 ⌝ }
+    ensures { λ r. ⌜ r ≤ 99 ⌝ }
+{
+    let a = digit(char_at(line, i));
+    let b = digit(char_at(line, i + 1));
+    10 * a + b
+}
+
+// The whole number of the field at i.
+fn whole(line: &[u8], i: usize) -> usize
+    requires { ⌜ i ≤ 90 ⌝ }
+    ensures { λ r. ⌜ r ≤ 999999 ⌝ }
+{
+    let a = pair(line, i + 1) as usize;
+    let b = pair(line, i + 3) as usize;
+    let c = pair(line, i + 5) as usize;
+    10000 * a + 100 * b + c
+}
+
+// The float of the field at i: `nan`, or a whole number under 10,000 with its sign.
+fn float_at(line: &[u8], i: usize) -> f32
+    requires { ⌜ i ≤ 90 ⌝ }
+{
+    if char_at(line, i + 6) == b'n' {
+        return 0.0 / 0.0;
+    }
+    let n = 100 * pair(line, i + 3) + pair(line, i + 5);
+    if char_at(line, i) == b'-' {
+        return -1.0 * n as f32;
+    }
+    n as f32
+}
+
+fn point_at(line: &[u8], i: usize) -> Vec2
+    requires { ⌜ i ≤ 80 ⌝ }
+{
+    let x = float_at(line, i);
+    let y = float_at(line, i + 7);
+    Vec2 { x, y }
+}
+
+// ---- writing
 
 fn word(w: &[u8]) {
     io::write_all(1, w);
@@ -17,10 +87,6 @@ fn word(w: &[u8]) {
 fn number(n: usize) {
     io::write_all(1, b" ");
     io::print_decimal(1, n as u64);
-}
-
-fn at(x: f32, y: f32) -> Vec2 {
-    Vec2 { x, y }
 }
 
 // A whole number under 100, `nan`, or a dash.
@@ -60,9 +126,27 @@ fn state(b: PathBuilder) {
     word(b"\n");
 }
 
-fn show(name: &[u8], r: Reply) {
+// The name of a line.
+fn name(line: &[u8]) {
+    let mut i: usize = 0;
+    while i < line.len() {
+        let c = line[i];
+        if c == b':' {
+            return;
+        }
+        let one = [c; 1];
+        word(&one);
+        i += 1;
+    }
+}
+
+// Nothing of a line without a name.
+fn show(line: &[u8], r: Reply) {
+    if char_at(line, 0) == b' ' {
+        return;
+    }
     let b = r.state;
-    word(name);
+    name(line);
     word(b": refused");
     number(r.refused as usize);
     word(b" quads");
@@ -74,9 +158,10 @@ fn byte(v: u8) {
     number(v as usize);
 }
 
-fn bytes(verbs: &[u8]) {
+// The bytes from the place `start` on.
+fn bytes(verbs: &[u8], start: usize) {
     word(b"  verbs");
-    let mut i: usize = 0;
+    let mut i = start;
     while i < verbs.len() {
         byte(verbs[i]);
         i += 1;
@@ -84,9 +169,9 @@ fn bytes(verbs: &[u8]) {
     word(b"\n");
 }
 
-fn floats(points: &[f32]) {
+fn floats(points: &[f32], start: usize) {
     word(b"  floats");
-    let mut i: usize = 0;
+    let mut i = start;
     while i < points.len() {
         float(points[i]);
         i += 1;
@@ -94,224 +179,15 @@ fn floats(points: &[f32]) {
     word(b"\n");
 }
 
-// A state as it is handed in.
-fn handed_in(verbs: usize, points: usize, started: bool) -> PathBuilder {
-    let mut b = PathBuilder::new();
-    b.verbs = verbs;
-    b.points = points;
-    b.started = started;
-    b
-}
-
-// A conic of 64 quads behind a move, in buffers of so many bytes and floats.
-fn conic_in(name: &[u8], v: usize, k: usize)
-    requires { ⌜ (v ≤ 66) × (k ≤ 260) ⌝ }
-{
-    let mut verbs = [9u8; 66];
-    let mut points = [7.0f32; 260];
-    let nan = 0.0 / 0.0;
-    let mut b = handed_in(1, 1, true);
-    b.pen_x = nan;
-    b.pen_y = nan;
-    let r = b.conic_to(
-        &mut verbs[0..v],
-        &mut points[0..k],
-        at(1.0, 0.0),
-        at(2.0, 0.0),
-        100.0,
-    );
-    show(name, r);
-}
-
-// Move to NaN, conic weight 100.
-fn nan_conic() {
-    let mut verbs = [9u8; 66];
-    let mut points = [7.0f32; 260];
-    let nan = 0.0 / 0.0;
-    let b = PathBuilder::new();
-    let r = b.move_to(&mut verbs, &mut points, at(nan, nan));
-    show(b"move to NaN", r);
-    let b = r.state;
-    let r = b.conic_to(&mut verbs, &mut points, at(1.0, 0.0), at(2.0, 0.0), 100.0);
-    show(b"conic of weight 100", r);
-    bytes(&verbs[63..66]);
-    floats(&points[256..260]);
-    conic_in(b"conic, 64 bytes", 64, 260);
-    conic_in(b"conic, 256 floats", 66, 256);
-    conic_in(b"conic, 65 bytes and 258 floats", 65, 258);
-}
-
-fn straight_conics() {
-    let mut verbs = [9u8; 8];
-    let mut points = [7.0f32; 16];
-    let b = PathBuilder::new();
-    let r = b.conic_to(&mut verbs, &mut points, at(1.0, 1.0), at(2.0, 3.0), 0.0);
-    show(b"conic of weight 0 on an empty builder", r);
-    let b = r.state;
-    let r = b.conic_to(&mut verbs, &mut points, at(1.0, 1.0), at(4.0, 5.0), 1.0);
-    show(b"conic of weight 1", r);
-    bytes(&verbs);
-    floats(&points);
-}
-
-// Exactly room for a move and a line.
-fn full() {
-    let mut verbs = [9u8; 2];
-    let mut points = [7.0f32; 4];
-    let b = PathBuilder::new();
-    let r = b.move_to(&mut verbs, &mut points, at(1.0, 2.0));
-    show(b"move", r);
-    let b = r.state;
-    let r = b.line_to(&mut verbs, &mut points, at(3.0, 4.0));
-    show(b"line", r);
-    let b = r.state;
-    let r = b.line_to(&mut verbs, &mut points, at(5.0, 6.0));
-    show(b"line, full", r);
-    let r = b.close(&mut verbs, &mut points);
-    show(b"close, full", r);
-    bytes(&verbs);
-    floats(&points);
-}
-
-// A byte and a float of the buffers.
-fn sample(v: u8, x: f32) {
+// Byte 1 and float 5 of the buffers.
+fn sample(verbs: &[u8], points: &[f32]) {
     word(b"  byte 1");
-    byte(v);
+    byte(char_at(verbs, 1));
     word(b" float 5");
-    float(x);
+    if 5 < points.len() {
+        float(points[5]);
+    }
     word(b"\n");
-}
-
-// A quad on an empty builder, in buffers of so many bytes and floats.
-fn quad_in(name: &[u8], v: usize, k: usize)
-    requires { ⌜ (v ≤ 3) × (k ≤ 8) ⌝ }
-{
-    let mut verbs = [9u8; 3];
-    let mut points = [7.0f32; 8];
-    let b = PathBuilder::new();
-    let r = b.quad_to(
-        &mut verbs[0..v],
-        &mut points[0..k],
-        at(1.0, 2.0),
-        at(3.0, 4.0),
-    );
-    show(name, r);
-    sample(verbs[1], points[5]);
-}
-
-fn cubic_in(name: &[u8], v: usize, k: usize)
-    requires { ⌜ (v ≤ 3) × (k ≤ 10) ⌝ }
-{
-    let mut verbs = [9u8; 3];
-    let mut points = [7.0f32; 10];
-    let b = PathBuilder::new();
-    let r = b.cubic_to(
-        &mut verbs[0..v],
-        &mut points[0..k],
-        at(1.0, 2.0),
-        at(3.0, 4.0),
-        at(5.0, 6.0),
-    );
-    show(name, r);
-    sample(verbs[1], points[5]);
-}
-
-// One short of each size, and just fitting.
-fn one_short() {
-    quad_in(b"quad, 1 byte", 1, 8);
-    quad_in(b"quad, 4 floats", 3, 4);
-    quad_in(b"quad, 2 bytes and 6 floats", 2, 6);
-    cubic_in(b"cubic, 1 byte", 1, 10);
-    cubic_in(b"cubic, 6 floats", 3, 6);
-    cubic_in(b"cubic, 2 bytes and 8 floats", 2, 8);
-}
-
-// The opening move, a close, and a drawn verb behind it.
-fn outline() {
-    let mut verbs = [9u8; 6];
-    let mut points = [7.0f32; 10];
-    let b = PathBuilder::new();
-    let r = b.close(&mut verbs, &mut points);
-    show(b"close on an empty builder", r);
-    let b = r.state;
-    let r = b.line_to(&mut verbs, &mut points, at(3.0, 4.0));
-    show(b"line on an empty builder", r);
-    let b = r.state;
-    let r = b.move_to(&mut verbs, &mut points, at(5.0, 6.0));
-    show(b"move", r);
-    let b = r.state;
-    let r = b.play(&mut verbs, &mut points, Call::LineTo(at(7.0, 8.0)));
-    show(b"line", r);
-    let b = r.state;
-    let r = b.play(&mut verbs, &mut points, Call::Close);
-    show(b"close", r);
-    let b = r.state;
-    let r = b.line_to(&mut verbs, &mut points, at(9.0, 10.0));
-    show(b"line after a close", r);
-    bytes(&verbs);
-    floats(&points);
-}
-
-// 65,536 verbs and 131,072 points, in buffers that hold more.
-fn limits() {
-    let mut verbs = [9u8; 65538];
-    let mut points = [7.0f32; 262148];
-    let b = handed_in(65535, 2, true);
-    let r = b.line_to(&mut verbs, &mut points, at(1.0, 2.0));
-    show(b"verb 65,536", r);
-    let b = r.state;
-    let r = b.line_to(&mut verbs, &mut points, at(3.0, 4.0));
-    show(b"verb 65,537", r);
-    let b = handed_in(3, 131071, true);
-    let r = b.line_to(&mut verbs, &mut points, at(1.0, 2.0));
-    show(b"point 131,072", r);
-    let b = r.state;
-    let r = b.move_to(&mut verbs, &mut points, at(3.0, 4.0));
-    show(b"point 131,073", r);
-    let r = b.close(&mut verbs, &mut points);
-    show(b"a close needs no point", r);
-    let b = handed_in(65537, 2, true);
-    let r = b.close(&mut verbs, &mut points);
-    show(b"65,537 verbs handed in", r);
-    let b = handed_in(3, 131073, true);
-    let r = b.close(&mut verbs, &mut points);
-    show(b"131,073 points handed in", r);
-    bytes(&verbs[65534..65538]);
-    floats(&points[262140..262148]);
-}
-
-// An odd number of floats comes before all else.
-fn odd() {
-    let mut verbs = [9u8; 2];
-    let mut points = [7.0f32; 5];
-    let b = PathBuilder::new();
-    let r = b.close(&mut verbs, &mut points);
-    show(b"close, 5 floats", r);
-    let b = handed_in(9, 9, false);
-    let r = b.line_to(&mut verbs, &mut points, at(1.0, 2.0));
-    show(b"line on a broken state, 5 floats", r);
-}
-
-// States that 7 meets, and two that it does not.
-fn broken() {
-    let mut verbs = [9u8; 4];
-    let mut points = [7.0f32; 8];
-    let r = handed_in(5, 1, true).close(&mut verbs, &mut points);
-    show(b"5 verbs in 4 bytes", r);
-    let r = handed_in(4, 5, true).line_to(&mut verbs, &mut points, at(1.0, 2.0));
-    show(b"5 points in 8 floats, no room", r);
-    let r = handed_in(0, 1, true).move_to(&mut verbs, &mut points, at(1.0, 2.0));
-    show(b"started without a verb", r);
-    let r = handed_in(1, 1, false).move_to(&mut verbs, &mut points, at(1.0, 2.0));
-    show(b"a verb and not started", r);
-    let r = handed_in(1, 0, true).move_to(&mut verbs, &mut points, at(1.0, 2.0));
-    show(b"started without a point", r);
-    let r = handed_in(4, 4, true).move_to(&mut verbs, &mut points, at(1.0, 2.0));
-    show(b"full", r);
-    let r = handed_in(0, 2, false).move_to(&mut verbs, &mut points, at(1.0, 2.0));
-    show(b"not started, with points", r);
-    bytes(&verbs);
-    floats(&points);
 }
 
 fn point(b: PathBuilder) {
@@ -345,35 +221,121 @@ fn note(b: PathBuilder) {
     word(b"\n");
 }
 
-fn notes() {
-    let mut verbs = [9u8; 4];
-    let mut points = [7.0f32; 8];
-    let b = PathBuilder::new().with_fill_rule(FillRule::EvenOdd);
-    point(b);
-    note(b);
-    let area = Rect {
-        min: at(1.0, 2.0),
-        max: at(3.0, 4.0),
-    };
-    let b = b.as_rounded_rect(area, 5.0);
-    note(b);
-    let r = b.move_to(&mut verbs, &mut points, at(6.0, 7.0));
-    let b = r.state;
-    point(b);
-    note(b);
-    note(b.as_rounded_rect(area, -2.0));
-    note(b.as_rounded_rect(area, -0.0));
-    note(b.as_rounded_rect(area, 0.0 / 0.0));
+// ---- a line
+
+// A state as it is handed in.
+fn handed_in(line: &[u8]) -> PathBuilder {
+    let mut b = PathBuilder::new();
+    b.verbs = whole(line, 40);
+    b.points = whole(line, 47);
+    b.started = whole(line, 54) == 1;
+    b.pen_x = float_at(line, 61);
+    b.pen_y = float_at(line, 68);
+    b
+}
+
+fn play(b: PathBuilder, line: &[u8], verbs: &mut [u8], points: &mut [f32]) -> Reply {
+    let p = point_at(line, 40);
+    let q = point_at(line, 54);
+    let r = point_at(line, 68);
+    match char_at(line, 39) {
+        b'm' => b.move_to(verbs, points, p),
+        b'l' => b.line_to(verbs, points, p),
+        b'q' => b.quad_to(verbs, points, p, q),
+        b'k' => b.conic_to(verbs, points, p, q, r.x),
+        b'c' => b.cubic_to(verbs, points, p, q, r),
+        _ => b.close(verbs, points),
+    }
+}
+
+// The state behind a line that is no call.
+fn set(b: PathBuilder, line: &[u8]) -> PathBuilder {
+    match char_at(line, 39) {
+        b'N' => PathBuilder::new(),
+        b'H' => handed_in(line),
+        b'R' => b.with_fill_rule(FillRule::EvenOdd),
+        b'A' => {
+            let area = Rect {
+                min: point_at(line, 40),
+                max: point_at(line, 54),
+            };
+            b.as_rounded_rect(area, float_at(line, 68))
+        }
+        _ => b,
+    }
+}
+
+// What a line that is no call asks for.
+fn ask(b: PathBuilder, line: &[u8], verbs: &[u8], points: &[f32]) {
+    match char_at(line, 39) {
+        b'P' => point(b),
+        b'T' => note(b),
+        b'S' => {
+            bytes(verbs, whole(line, 40));
+            floats(points, whole(line, 47));
+        }
+        b'Y' => sample(verbs, points),
+        _ => {}
+    }
+}
+
+fn step(b: PathBuilder, line: &[u8], verbs: &mut [u8], points: &mut [f32]) -> PathBuilder {
+    if char_at(line, 39) < b'a' {
+        ask(b, line, verbs, points);
+        return set(b, line);
+    }
+    let r = play(b, line, verbs, points);
+    show(line, r);
+    r.state
+}
+
+// The next n lines, on a fresh builder.
+fn scene(n: usize, verbs: &mut [u8], points: &mut [f32]) {
+    let mut line = [0u8; 83];
+    let mut b = PathBuilder::new();
+    let mut i: usize = 0;
+    while i < n {
+        io::read_full(0, &mut line);
+        b = step(b, &line, verbs, points);
+        i += 1;
+    }
+}
+
+// The lines of one pair of lent buffers.
+fn lend(line: &[u8], verbs: &mut [u8], points: &mut [f32]) {
+    let a = whole(line, 40);
+    let b = whole(line, 47);
+    let c = whole(line, 54);
+    let d = whole(line, 61);
+    if verbs.len() < b {
+        return;
+    }
+    if points.len() < d {
+        return;
+    }
+    if b < a {
+        return;
+    }
+    if d < c {
+        return;
+    }
+    scene(whole(line, 68), &mut verbs[a..b], &mut points[c..d]);
+}
+
+fn run(verbs: &mut [u8], points: &mut [f32]) {
+    let mut line = [0u8; 83];
+    let mut i: usize = 0;
+    while i < 100 {
+        if io::read_full(0, &mut line) != 83 {
+            return;
+        }
+        lend(&line, verbs, points);
+        i += 1;
+    }
 }
 
 fn main() {
-    nan_conic();
-    straight_conics();
-    full();
-    one_short();
-    outline();
-    limits();
-    odd();
-    broken();
-    notes();
+    let mut verbs = [9u8; 65538];
+    let mut points = [7.0f32; 262148];
+    run(&mut verbs, &mut points);
 }

@@ -1,38 +1,37 @@
 -- The weights of the levels: made one from the other (`levels-six`), none given (`levels-none`), those of a quarter of a circle (`levels-quarter`),
--- and read one level down (`levels-first`, `levels-next`, `levels-left`). Assumes nothing.
+-- read one level down (`levels-first`, `levels-next`), and kept (`kept-none`, `kept-one`, `kept-down`). Assumes nothing.
 use mathlib.Core.Path.{_≡_, refl, sym, ap, _∙_}
-use mathlib.Core.Bool.{Bool, true, false, cond, true≢false}
+use mathlib.Core.Bool.{true, true≢false}
 use mathlib.Core.List.{List, [], _∷_}
 use Prim.Native.Nat.{ℕ, zero, suc, _-_, _≤_}
 use native.Mathlib.Omega.{arith}
 use lib.ListN.{getD, set, drop}
 use lib.Seq.{getD-set-other, drop-set-lt}
-use lib.Ieee.{Float, nan, binary32, lt, le, add, sub, mul, ofBits}
+use lib.Ieee.{Float, nan, binary32, lt, add, mul, ofBits}
 use Rattle.float.specs.Arith.{f0}
 use Rattle.float.specs.Root.{squareRoot}
-use Rattle.float.specs.Small.{abs}
-use Rattle.conic.specs.Conic.{nearOne, halfWeight}
-use Rattle.conic.specs.Lay.{Levels, Kept, splitsLeft}
+use Rattle.halves.specs.Conic.{halfWeight}
+use Rattle.conic.specs.Lay.{Levels, KeptLevels}
 
--- g, where it is above 0, is the weight of w's halves, and not near 1
+-- g, where it is above 0, is the weight of w's halves, and w is above 0
 abbrev Given : Float → Float → Type 0
-Given g w = lt f0 g ≡ true → (lt f0 w ≡ true) × (g ≡ halfWeight w) × (nearOne g ≡ false)
+Given g w = lt f0 g ≡ true → (lt f0 w ≡ true) × (g ≡ halfWeight w)
 
 given-none : (w : Float) → Given f0 w
 unfolding lt ofBits
 given-none w h = absurd (true≢false (sym h))
 
--- a weight that is given is that of y's halves and not near 1
+-- a weight that is given is that of y's halves
 abbrev Is : Float → Float → Type 0
-Is g y = lt f0 g ≡ true → (g ≡ halfWeight y) × (nearOne g ≡ false)
+Is g y = lt f0 g ≡ true → g ≡ halfWeight y
 
 below : (b a y : Float) → Given b a → Is a y → Is b (halfWeight y)
-below b a y g p h = (g h .1 ∙ ap halfWeight (p (g h .0) .0), g h .2)
+below b a y g p h = g h .1 ∙ ap halfWeight (p (g h .0))
 
 module _ (w a b c d e f : Float) (ga : Given a w) (gb : Given b a) (gc : Given c b) (gd : Given d c) (ge : Given e d) (gf : Given f e) where
   pub levels-six : Levels 6 w (f ∷ e ∷ d ∷ c ∷ b ∷ a ∷ [])
   levels-six =
-      let one : Is a w = λ (h : lt f0 a ≡ true). (ga h .1, ga h .2) in
+      let one : Is a w = λ (h : lt f0 a ≡ true). ga h .1 in
       let two = below b a _ gb one in
       let three = below c b _ gc two in
       let four = below d c _ gd three in
@@ -48,20 +47,12 @@ module _ (w : Float) (ws : List Float) where
   levels-next zero u l e h = absurd (omega (arith, l))
   levels-next (suc k) u l e h = let p : suc k - 1 ≡ k = omega arith in rw (p, e) (h .1)
 
-  -- fewer splits ask for fewer levels
-  levels-some : (b : Bool) (k : ℕ) → Levels k w ws → Levels (cond b 0 k) w ws
-  levels-some true k h = tt
-  levels-some false k h = h
-
-  pub levels-left : (k : ℕ) → Levels k w ws → Levels (splitsLeft w k) w ws
-  levels-left k h = levels-some (nearOne w) k h
-
 pub levels-none : (w : Float) → Levels 6 w (f0 ∷ f0 ∷ f0 ∷ f0 ∷ f0 ∷ f0 ∷ [])
 levels-none w = levels-six w f0 f0 f0 f0 f0 f0 (given-none _) (given-none _) (given-none _) (given-none _) (given-none _) (given-none _)
 
 -- ---- a weight is kept: none, that of the halves, those of the levels below
 
-pub kept-none : (k : ℕ) (w : Float) (ws : List Float) → Levels k w ws → Kept k w ws ws
+pub kept-none : (k : ℕ) (w : Float) (ws : List Float) → Levels k w ws → KeptLevels k w ws ws
 kept-none k w ws h = record { below = h; above = refl }
 
 -- a store behind the levels that are asked for
@@ -78,12 +69,12 @@ stored [] j u t = absurd (true≢false (sym t))
 stored (w ∷ ws) zero u t = refl
 stored (w ∷ ws) (suc j) u t = stored ws j u t
 
-pub kept-one : (k : ℕ) (w u : Float) (ws : List Float) → 1 ≤ k → u ≡ halfWeight w → nearOne u ≡ false → Levels k w ws → Kept k w ws (set ws (k - 1) u)
-kept-one zero w u ws l e n h = absurd (omega (arith, l))
-kept-one (suc j) w u ws l e n h =
+pub kept-one : (k : ℕ) (w u : Float) (ws : List Float) → 1 ≤ k → u ≡ halfWeight w → Levels k w ws → KeptLevels k w ws (set ws (k - 1) u)
+kept-one zero w u ws l e h = absurd (omega (arith, l))
+kept-one (suc j) w u ws l e h =
     let p : suc j - 1 ≡ j = omega arith in
     rw p (record {
-      below = (λ (t : lt f0 (getD (set ws j u) j nan) ≡ true). let q = stored ws j u t in (q ∙ e, rw q n), levels-set j (halfWeight w) ws j u (omega arith) (h .1));
+      below = (λ (t : lt f0 (getD (set ws j u) j nan) ≡ true). stored ws j u t ∙ e, levels-set j (halfWeight w) ws j u (omega arith) (h .1));
       above = drop-set-lt (suc j) ws j u (omega arith);
     })
 
@@ -99,11 +90,11 @@ drop-one [] (suc j) = refl
 drop-one (x ∷ l) zero = refl
 drop-one (x ∷ l) (suc j) = drop-one l j
 
-pub kept-down : (k : ℕ) (w : Float) {ws ws' ws'' : List Float} → 1 ≤ k → Kept k w ws ws' → Kept (k - 1) (halfWeight w) ws' ws'' → Kept k w ws ws''
+pub kept-down : (k : ℕ) (w : Float) {ws ws' ws'' : List Float} → 1 ≤ k → KeptLevels k w ws ws' → KeptLevels (k - 1) (halfWeight w) ws' ws'' → KeptLevels k w ws ws''
 kept-down zero w l p q = absurd (omega (arith, l))
 kept-down (suc j) w {ws} {ws'} {ws''} l p q =
     let r : suc j - 1 ≡ j = omega arith in
-    let s : Kept j (halfWeight w) ws' ws'' = rw (← r) q in
+    let s : KeptLevels j (halfWeight w) ws' ws'' = rw (← r) q in
     let g = sym (getD-drop ws'' j) ∙ ap (λ (m : List Float). getD m 0 nan) (s .above) ∙ getD-drop ws' j in
     record {
       below = (rw g (p .below .0), s .below);
@@ -128,20 +119,20 @@ abbrev fourth : Float
 fourth = ofBits binary32 0x3f7f_b10f
 
 given-first : Given first quarter
-unfolding halfWeight nearOne abs squareRoot ofBits add sub mul lt le
-given-first h = (refl, refl, refl)
+unfolding halfWeight squareRoot ofBits add mul lt
+given-first h = (refl, refl)
 
 given-second : Given second first
-unfolding halfWeight nearOne abs squareRoot ofBits add sub mul lt le
-given-second h = (refl, refl, refl)
+unfolding halfWeight squareRoot ofBits add mul lt
+given-second h = (refl, refl)
 
 given-third : Given third second
-unfolding halfWeight nearOne abs squareRoot ofBits add sub mul lt le
-given-third h = (refl, refl, refl)
+unfolding halfWeight squareRoot ofBits add mul lt
+given-third h = (refl, refl)
 
 given-fourth : Given fourth third
-unfolding halfWeight nearOne abs squareRoot ofBits add sub mul lt le
-given-fourth h = (refl, refl, refl)
+unfolding halfWeight squareRoot ofBits add mul lt
+given-fourth h = (refl, refl)
 
 abbrev pub quarter-levels : List Float
 quarter-levels = f0 ∷ f0 ∷ fourth ∷ third ∷ second ∷ first ∷ []

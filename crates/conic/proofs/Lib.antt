@@ -1,7 +1,2 @@
-pub mod Laws
-pub mod Pieces
-pub mod Examples
-pub mod Rounded
-pub mod Sides
-pub mod Clear
+pub mod Stores
 pub mod Levels

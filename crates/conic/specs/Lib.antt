@@ -1,2 +1,1 @@
-pub mod Conic
 pub mod Lay

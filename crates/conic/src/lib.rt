@@ -1,19 +1,26 @@
 // A conic as quads: split in half until it is near a quad, at most 6 deep. A half is three points in an array, by value.
 ghost use mathlib.Core.Path.{_≡_};
-ghost use mathlib.Core.Bool.{false};
 ghost use mathlib.Core.List.{[], _∷_};
-ghost use Prim.Native.Nat.{_+_, _-_, _*_, _≤_};
-ghost use lib.ListN.{length, replicate};
+ghost use Prim.Native.Nat.{_+_, _*_, _^_, _≤_};
+ghost use lib.ListN.{length, replicate, take};
 ghost use lib.Seq.{sets};
 ghost use lib.Ieee.{binary32};
 ghost use Rattle.float.specs.Root.{squareRoot};
-ghost use Rattle.conic.specs.Conic.{straight, square, gapBy, within, nearOne, nearMidBy, leftOf, rightOf, middle, halfWeight, quads};
-ghost use Rattle.conic.specs.Lay.{Levels, Kept, fromOf, ctrlOf, toOf, halfOf, leftHalf, rightHalf, moderate, single, singleBy, splitsLeft, pieces, Put, VerbsLeft, Bent};
+ghost use Rattle.halves.specs.Conic.{straight, mostQuads, square, gap, within, nearOne, nearMid, leftOf, rightOf, middle, halfWeight, quads};
+ghost use Rattle.halves.specs.Halves.{fromOf, ctrlOf, toOf, halfOf, leftHalf, rightHalf, moderate, single, pieces};
+ghost use Rattle.conic.specs.Lay.{Levels, KeptLevels, Put, Bent};
 ghost use Rattle.path.specs.declared.Segment.the-variants.{Quad};
 use vec2::Vec2;
 
 // How often a conic is split at most.
 const DEPTH: usize = 6;
+
+// So many quads it gives at most, with so many points and floats.
+pub const MAX_QUADS: usize = 64;
+
+pub const MAX_POINTS: usize = 128;
+
+pub const MAX_FLOATS: usize = 256;
 
 // Whether a conic is no curve, and gives one line to its end.
 pub fn is_straight(ctrl: Vec2, to: Vec2, weight: f32) -> bool
@@ -124,11 +131,13 @@ fn square_of(p: Vec2) -> f32
     p.x * p.x + p.y * p.y
 }
 
-// The way from the quad's midpoint to the conic's. Callers work out 2 * weight and 2 * (1 + weight), once for both halves: so is_quad is small enough to be inlined.
-fn mid_gap(from: Vec2, ctrl: Vec2, to: Vec2, twice: f32, sum: f32) -> Vec2
-    ensures { λ r. ⌜ r ≡ gapBy from ctrl to twice sum ⌝ }
+// The way from the quad's midpoint to the conic's.
+fn mid_gap(from: Vec2, ctrl: Vec2, to: Vec2, weight: f32) -> Vec2
+    ensures { λ r. ⌜ r ≡ gap from ctrl to weight ⌝ }
 {
-    let conic_mid = from.add(ctrl.mul(twice)).add(to).div(sum);
+    let conic_mid = from.add(ctrl.mul(2.0 * weight))
+        .add(to)
+        .div(2.0 * (1.0 + weight));
     let quad_mid = from.add(ctrl.mul(2.0)).add(to).mul(0.25);
     conic_mid.sub(quad_mid)
 }
@@ -180,70 +189,25 @@ fn is_near_one(weight: f32) -> bool
 }
 
 // Whether the quad of the same points is near enough, by the midpoints.
-fn is_near(from: Vec2, ctrl: Vec2, to: Vec2, twice: f32, sum: f32) -> bool
-    ensures { λ r. ⌜ r ≡ nearMidBy from ctrl to twice sum ⌝ }
+fn is_near(from: Vec2, ctrl: Vec2, to: Vec2, weight: f32) -> bool
+    ensures { λ r. ⌜ r ≡ nearMid from ctrl to weight ⌝ }
 {
     let chord = square_of(to.sub(from));
-    let gap = square_of(mid_gap(from, ctrl, to, twice, sum));
+    let gap = square_of(mid_gap(from, ctrl, to, weight));
     is_within(chord, gap)
 }
 
 // Whether a half that may be split k times more is one quad.
-fn is_quad(h: [[f32; 2]; 3], twice: f32, sum: f32, k: usize) -> bool
-    ensures { λ r. ⌜ r ≡ singleBy k h twice sum ⌝ }
+fn is_quad(h: [[f32; 2]; 3], weight: f32, k: usize) -> bool
+    ensures { λ r. ⌜ r ≡ single k h weight ⌝ }
 {
     if k == 0 {
         return true;
     }
-    is_near(from_of(h), ctrl_of(h), to_of(h), twice, sum)
-}
-
-// How often a conic of this weight may still be split, where its depth allows k times.
-fn splits_left(weight: f32, k: usize) -> usize
-    ensures { λ r. ⌜ r ≡ splitsLeft weight k ⌝ }
-{
-    if is_near_one(weight) { 0 } else { k }
-}
-
-// Lays the points of a half's quad from f on.
-fn put_quad(h: [[f32; 2]; 3], floats: &mut [f32], f: usize) -> usize
-    requires { ⌜ f + 4 ≤ length (now floats) ⌝ }
-    ensures { λ r. ⌜ Put (Quad (ctrlOf h) (toOf h) ∷ []) r (now (floats .entry)) f (now (floats .exit)) ⌝ }
-{
-    let ctrl = ctrl_of(h);
-    let to = to_of(h);
-    floats[f] = ctrl.x;
-    floats[f + 1] = ctrl.y;
-    floats[f + 2] = to.x;
-    floats[f + 3] = to.y;
-    1
-}
-
-// Lays the verb of quad i from v on, if there are so many, and says which is next.
-fn put_next(verbs: &mut [u8], v: usize, i: usize, n: usize) -> usize
-    requires { ⌜ (i ≤ n) × (v + n ≤ length (now verbs)) ⌝ }
-    ensures { λ r. ⌜ VerbsLeft v n i (now (verbs .entry)) r (now (verbs .exit)) ⌝ }
-{
-    if i < n {
-        verbs[v + i] = 2;
-        return i + 1;
+    if is_near_one(weight) {
+        return true;
     }
-    i
-}
-
-// Lays n verbs of quads from v on. The first four one by one: most conics have no more, and the compiler makes of the loop a call that takes longer than they do.
-fn put_verbs(verbs: &mut [u8], v: usize, n: usize)
-    requires { ⌜ v + n ≤ length (now verbs) ⌝ }
-    ensures { λ _. ⌜ now (verbs .exit) ≡ sets (now (verbs .entry)) v (replicate n 2) ⌝ }
-{
-    let first = put_next(verbs, v, 0, n);
-    let second = put_next(verbs, v, first, n);
-    let third = put_next(verbs, v, second, n);
-    let mut i = put_next(verbs, v, third, n);
-    while i < n {
-        verbs[v + i] = 2;
-        i += 1;
-    }
+    is_near(from_of(h), ctrl_of(h), to_of(h), weight)
 }
 
 // ---- the weights of the levels, each worked out once: a root takes as long as a half of one
@@ -265,74 +229,37 @@ fn known_levels(weight: f32) -> [f32; 6]
     [0.0f32; 6]
 }
 
-// A level: the weight of its halves, and how often they may be split.
-struct Level {
-    weight: f32,
-    splits: usize,
-}
-
-// The level below a half that may be split k times more. Its weight is kept for the other halves of the level.
-fn next_level(weight: f32, levels: &mut [f32; 6], k: usize) -> Level
+// The weight of the halves of a half that may be split k times more. It is kept for the other halves of its level.
+fn level_weight(weight: f32, levels: &mut [f32; 6], k: usize) -> f32
     requires { ⌜ (1 ≤ k) × (k ≤ 6) × Levels k weight (now levels) ⌝ }
-    ensures { λ r. ⌜ (r .weight ≡ halfWeight weight) × (r .splits ≡ splitsLeft (halfWeight weight) (k - 1)) × Kept k weight (now (levels .entry)) (now (levels .exit)) ⌝ }
+    ensures { λ r. ⌜ (r ≡ halfWeight weight) × KeptLevels k weight (now (levels .entry)) (now (levels .exit)) ⌝ }
 {
     let given = levels[k - 1];
     if given > 0.0 {
-        return Level {
-            weight: given,
-            splits: k - 1,
-        };
+        return given;
     }
     let u = split_weight(weight);
-    if is_near_one(u) {
-        return Level {
-            weight: u,
-            splits: 0,
-        };
-    }
     levels[k - 1] = u;
-    Level {
-        weight: u,
-        splits: k - 1,
-    }
+    u
 }
 
-// Lays the quads of a half that is split, and may be k times more, and says how many they are. Its halves are tested here: more than half of them are one quad each.
-fn push_halves(
-    h: [[f32; 2]; 3],
-    weight: f32,
-    levels: &mut [f32; 6],
-    k: usize,
-    floats: &mut [f32],
-    f: usize,
-) -> usize
-    requires { ⌜ (k ≤ 6) × (f + 4 * length (pieces k h weight) ≤ length (now floats)) × (splitsLeft weight k ≡ k) × (single k h weight ≡ false) × Levels k weight (now levels) ⌝ }
-    ensures { λ r. ⌜ Put (pieces k h weight) r (now (floats .entry)) f (now (floats .exit)) × Kept k weight (now (levels .entry)) (now (levels .exit)) ⌝ }
+// ---- quads in the buffers
+
+// Lays the points of a half's quad from f on.
+fn put_quad(h: [[f32; 2]; 3], floats: &mut [f32], f: usize) -> usize
+    requires { ⌜ f + 4 ≤ length (now floats) ⌝ }
+    ensures { λ r. ⌜ Put (Quad (ctrlOf h) (toOf h) ∷ []) r (now (floats .entry)) f (now (floats .exit)) ⌝ }
 {
-    let next = next_level(weight, levels, k);
-    let u = next.weight;
-    let j = next.splits;
-    let left = left_half(h, weight);
-    let right = right_half(h, weight);
-    let twice = 2.0 * u;
-    let sum = 2.0 * (1.0 + u);
-    let left_is_quad = is_quad(left, twice, sum, j);
-    let right_is_quad = is_quad(right, twice, sum, j);
-    if left_is_quad {
-        let l = put_quad(left, floats, f);
-        if right_is_quad {
-            return l + put_quad(right, floats, f + 4 * l);
-        }
-        return l + push_halves(right, u, levels, j, floats, f + 4 * l);
-    }
-    let l = push_halves(left, u, levels, j, floats, f);
-    if right_is_quad {
-        return l + put_quad(right, floats, f + 4 * l);
-    }
-    l + push_halves(right, u, levels, j, floats, f + 4 * l)
+    let ctrl = ctrl_of(h);
+    let to = to_of(h);
+    floats[f] = ctrl.x;
+    floats[f + 1] = ctrl.y;
+    floats[f + 2] = to.x;
+    floats[f + 3] = to.y;
+    1
 }
 
-// Lays the quads of a half that may be split k times more, 0 for a weight near 1, and says how many they are.
+// Lays the points of a half that may be split k times more, and says how many quads they are. Room is asked for by the depth alone: no rounding changes it.
 fn push_half(
     h: [[f32; 2]; 3],
     weight: f32,
@@ -341,16 +268,62 @@ fn push_half(
     floats: &mut [f32],
     f: usize,
 ) -> usize
-    requires { ⌜ (k ≤ 6) × (f + 4 * length (pieces k h weight) ≤ length (now floats)) × (splitsLeft weight k ≡ k) × Levels k weight (now levels) ⌝ }
-    ensures { λ r. ⌜ Put (pieces k h weight) r (now (floats .entry)) f (now (floats .exit)) ⌝ }
+    requires { ⌜ (k ≤ 6) × (f + 4 * 2 ^ k ≤ length (now floats)) × Levels k weight (now levels) ⌝ }
+    ensures { λ r. ⌜ Put (pieces k h weight) r (now (floats .entry)) f (now (floats .exit)) × KeptLevels k weight (now (levels .entry)) (now (levels .exit)) ⌝ }
 {
-    if is_quad(h, 2.0 * weight, 2.0 * (1.0 + weight), k) {
+    if is_quad(h, weight, k) {
         return put_quad(h, floats, f);
     }
-    push_halves(h, weight, levels, k, floats, f)
+    let left = left_half(h, weight);
+    let right = right_half(h, weight);
+    let u = level_weight(weight, levels, k);
+    let l = push_half(left, u, levels, k - 1, floats, f);
+    let r = push_half(right, u, levels, k - 1, floats, f + 4 * l);
+    l + r
 }
 
-// Lays the quads of a conic, verbs from v on and floats from f on, and says how many they are.
+// Lays the points of a conic's quads from f on, and says how many quads they are.
+pub fn push_points(
+    from: Vec2,
+    ctrl: Vec2,
+    to: Vec2,
+    weight: f32,
+    floats: &mut [f32],
+    f: usize,
+) -> usize
+    requires { ⌜ f + 4 * mostQuads ≤ length (now floats) ⌝ }
+    ensures { λ r. ⌜ Put (quads from ctrl to weight) r (now (floats .entry)) f (now (floats .exit)) ⌝ }
+{
+    let mut levels = known_levels(weight);
+    let h = half_of(from, ctrl, to);
+    push_half(h, weight, &mut levels, DEPTH, floats, f)
+}
+
+// Lays n verbs of quads from v on.
+fn put_verbs(verbs: &mut [u8], v: usize, n: usize)
+    requires { ⌜ v + n ≤ length (now verbs) ⌝ }
+    ensures { λ _. ⌜ now (verbs .exit) ≡ sets (now (verbs .entry)) v (replicate n 2) ⌝ }
+{
+    let mut i = 0;
+    while i < n {
+        verbs[v + i] = 2;
+        i += 1;
+    }
+}
+
+// Lays the first n of some floats from f on.
+fn put_floats(from: &[f32], n: usize, floats: &mut [f32], f: usize)
+    requires { ⌜ (n ≤ length (now from)) × (f + n ≤ length (now floats)) ⌝ }
+    ensures { λ _. ⌜ now (floats .exit) ≡ sets (now (floats .entry)) f (take n (now (from .entry))) ⌝ }
+{
+    let mut i = 0;
+    while i < n {
+        floats[f + i] = from[i];
+        i += 1;
+    }
+}
+
+// Lays the quads of a conic where 64 have room, verbs from v on and floats from f on, and says how many they are.
 pub fn push_conic(
     from: Vec2,
     ctrl: Vec2,
@@ -361,37 +334,19 @@ pub fn push_conic(
     floats: &mut [f32],
     f: usize,
 ) -> usize
-    requires { ⌜ (v + length (quads from ctrl to weight) ≤ length (now verbs)) × (f + 4 * length (quads from ctrl to weight) ≤ length (now floats)) ⌝ }
+    requires { ⌜ (v + mostQuads ≤ length (now verbs)) × (f + 4 * mostQuads ≤ length (now floats)) ⌝ }
     ensures { λ r. ⌜ Bent (quads from ctrl to weight) r (now (verbs .entry)) v (now (verbs .exit)) (now (floats .entry)) f (now (floats .exit)) ⌝ }
 {
-    let mut levels = known_levels(weight);
-    let h = half_of(from, ctrl, to);
-    let k = splits_left(weight, DEPTH);
-    let n = push_half(h, weight, &mut levels, k, floats, f);
+    let n = push_points(from, ctrl, to, weight, floats, f);
     put_verbs(verbs, v, n);
     n
 }
 
-// How many quads a half gives that may be split k times more, 0 for a weight near 1.
-fn count_half(h: [[f32; 2]; 3], weight: f32, k: usize) -> usize
-    requires { ⌜ (k ≤ 6) × (splitsLeft weight k ≡ k) ⌝ }
-    ensures { λ r. ⌜ r ≡ length (pieces k h weight) ⌝ }
+// Lays n quads whose points stand apart, verbs from v on and floats from f on.
+pub fn put_quads(points: &[f32], n: usize, verbs: &mut [u8], v: usize, floats: &mut [f32], f: usize)
+    requires { ⌜ (4 * n ≤ length (now points)) × (v + n ≤ length (now verbs)) × (f + 4 * n ≤ length (now floats)) ⌝ }
+    ensures { λ _. ⌜ (now (verbs .exit) ≡ sets (now (verbs .entry)) v (replicate n 2)) × (now (floats .exit) ≡ sets (now (floats .entry)) f (take (4 * n) (now (points .entry)))) ⌝ }
 {
-    if is_quad(h, 2.0 * weight, 2.0 * (1.0 + weight), k) {
-        return 1;
-    }
-    let u = split_weight(weight);
-    let j = splits_left(u, k - 1);
-    let l = count_half(left_half(h, weight), u, j);
-    let r = count_half(right_half(h, weight), u, j);
-    l + r
-}
-
-// How many quads a conic gives. It is asked for where there is no room for 64, and takes no buffer.
-pub fn count_quads(from: Vec2, ctrl: Vec2, to: Vec2, weight: f32) -> usize
-    ensures { λ r. ⌜ (r ≡ length (quads from ctrl to weight)) × (1 ≤ r) × (r ≤ 64) ⌝ }
-{
-    let h = half_of(from, ctrl, to);
-    let k = splits_left(weight, DEPTH);
-    count_half(h, weight, k)
+    put_verbs(verbs, v, n);
+    put_floats(points, 4 * n, floats, f);
 }

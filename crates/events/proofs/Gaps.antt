@@ -20,7 +20,7 @@ use Rattle.events.specs.declared.Event.the-variants.{Nothing, Cut, Reach
 use Rattle.events.specs.Loop.{Trace, traced}
 use Rattle.events.specs.Zeros.{after, zeroAt, above, firstAbove, next, ahead, BehindZeros, oneAbove, gapsOnly}
 use Rattle.events.specs.Phase.{phaseGoes, phaseNext, startOf}
-use Rattle.events.specs.Walk.{Place, place, inside, resting, nothingLeft, turned, goes, onward, tells, cutFrom, beginningAt, cutLeg, passed, legOf, counts, walkFrom, walkPolyline, walkAll}
+use Rattle.events.specs.Walk.{Place, place, inside, resting, nothingLeft, turned, goes, onward, tells, cutFrom, beginningAt, cutLeg, passed, legOf, isWalked, walkFrom, walkPolyline, walkAll}
 use Rattle.events.specs.Drawn.{drawn}
 use Rattle.events.proofs.Loops.{traced-ind}
 use Rattle.events.proofs.Turns.{next-index, first-index, above-in, both-left, both-second}
@@ -243,8 +243,8 @@ module _ (cs : List Float) (only : gapsOnly cs ≡ true) where
   silent-walk a [] p h = λ d. refl
   silent-walk a (b ∷ ps) p h =
       let g = legOf a b in
-      let c = passed (counts g) cs g p in
-      let l = silent-passed g (counts g) p h in
+      let c = passed (isWalked g) cs g p in
+      let l = silent-passed g (isWalked g) p h in
       l .1 (walkFrom cs b ps (c .pos)) (silent-walk b ps (c .pos) (l .0))
 
   silent-line : (start : Pos) (ps : List Vec2) → start .drawing ≡ false → drawn false (walkPolyline cs start ps) ≡ []

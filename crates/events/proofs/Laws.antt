@@ -12,7 +12,7 @@ use Rattle.events.specs.declared.Pos.{Pos}
 use Rattle.events.specs.declared.Leg.{Leg}
 use Rattle.events.specs.declared.Event.{Event}
 use Rattle.events.specs.declared.Event.the-variants.{Nothing, Cut, Reach, Pass}
-use Rattle.events.specs.Walk.{nothingLeft, turned, inside, Told, Place, place, goes, cutFrom, beginningAt, cutLeg, passed, legOf, counts, walkFrom}
+use Rattle.events.specs.Walk.{nothingLeft, turned, inside, Told, Place, place, goes, cutFrom, beginningAt, cutLeg, passed, legOf, isWalked, walkFrom}
 use Rattle.events.specs.Drawn.{downTo, drawn}
 use Rattle.events.specs.Laws.{EndsThere}
 use Rattle.events.proofs.Turns.{cut-stop, cut-step}
@@ -41,7 +41,7 @@ module _ (cs : List Float) (g : Leg) (a : Vec2) (fs : List Event) where
       go false h = begins-by c _ _ (ap (λ (z : Told). z .events) (cut-stop cs g (place p f0) h))
 
 module _ (cs : List Float) (a b : Vec2) (ps : List Vec2) (p : Pos) (down : Bool) where
-  begins : counts (legOf a b) ≡ true → nothingLeft p ≡ true → nothingLeft (turned cs p) ≡ false →
+  begins : isWalked (legOf a b) ≡ true → nothingLeft p ≡ true → nothingLeft (turned cs p) ≡ false →
       drawn down (walkFrom cs a (b ∷ ps) p) ≡ drawn false (beginningAt a (walkFrom cs a (b ∷ ps) (turned cs p)))
   unfolding walkFrom
   begins x y z =

@@ -19,7 +19,7 @@ use Rattle.events.specs.declared.Event.the-variants.{Nothing, Cut, Reach
 use Rattle.events.specs.Loop.{Trace, then, trace, traced}
 use Rattle.events.specs.Zeros.{after, zeroAt, above, firstAbove, next}
 use Rattle.events.specs.Phase.{Phase, phaseGoes, phaseNext, phaseFrom, started, startOf}
-use Rattle.events.specs.Walk.{Place, place, Told, nothingLeft, turned, inside, resting, goes, onward, tells, finish, cutFrom, cutLeg, passed, legOf, counts, walkFrom, walkPolyline, walkAll}
+use Rattle.events.specs.Walk.{Place, place, Told, nothingLeft, turned, inside, resting, goes, onward, tells, finish, cutFrom, cutLeg, passed, legOf, isWalked, walkFrom, walkPolyline, walkAll}
 use Rattle.events.specs.Drawn.{downTo, drawn}
 use Rattle.events.specs.Source as source
 use Rattle.events.proofs.Loops.{traced-ind}
@@ -155,10 +155,10 @@ module _ (cs : List Float) (nz : source.noZero cs ≡ true) (even : length cs % 
   walk-same a [] p h e = refl
   walk-same a (b ∷ ps) p h e =
       let g = legOf a b in
-      let z = source.passed (counts g) cs g p in
-      let l = leg-same g (counts g) p h (or-first (counts g && nothingLeft p) (source.meetsFrom cs b ps (z .pos)) e) in
+      let z = source.passed (isWalked g) cs g p in
+      let l = leg-same g (isWalked g) p h (or-first (isWalked g && nothingLeft p) (source.meetsFrom cs b ps (z .pos)) e) in
       ap (λ (c : Told). c .events ++ walkFrom cs b ps (c .pos)) (l .0)
-      ∙ ap (λ (es : List Event). z .events ++ es) (walk-same b ps (z .pos) (l .1) (or-rest (counts g && nothingLeft p) (source.meetsFrom cs b ps (z .pos)) e))
+      ∙ ap (λ (es : List Event). z .events ++ es) (walk-same b ps (z .pos) (l .1) (or-rest (isWalked g && nothingLeft p) (source.meetsFrom cs b ps (z .pos)) e))
 
   pub line-same : (start : Pos) (ps : List Vec2) → Good start → source.meets cs start ps ≡ false → walkPolyline cs start ps ≡ source.walkPolyline cs start ps
   line-same start [] h e = refl
@@ -244,8 +244,8 @@ module _ (cs : List Float) where
   calm-walk a [] p d u = tt
   calm-walk a (b ∷ ps) p d u =
       let g = legOf a b in
-      let c = source.passed (counts g) cs g p in
-      calm-passed (counts g) g p d (source.walkFrom cs b ps (c .pos)) u (λ e v. calm-walk b ps (c .pos) e v)
+      let c = source.passed (isWalked g) cs g p in
+      calm-passed (isWalked g) g p d (source.walkFrom cs b ps (c .pos)) u (λ e v. calm-walk b ps (c .pos) e v)
 
   calm-line : (start : Pos) (ps : List Vec2) → Calm false (source.walkPolyline cs start ps)
   calm-line start [] = tt

@@ -17,7 +17,7 @@ use Rattle.events.specs.Loop.{traced}
 use Rattle.events.specs.Zeros.{after, isZero}
 use Rattle.events.specs.Drawn.{downTo}
 use Rattle.events.specs.Phase.{Phase, phaseGoes, started}
-use Rattle.events.specs.Walk.{Place, place, Told, nothingLeft, goes, tells, finish, legOf, counts}
+use Rattle.events.specs.Walk.{Place, place, Told, nothingLeft, goes, tells, finish, legOf, isWalked}
 
 -- ---- the phase
 
@@ -50,7 +50,7 @@ module _ (cs : List Float) (g : Leg) where
 
 -- ---- a polyline
 
--- an interval with nothing left goes on
+-- the source asks nothing where a leg begins: an interval with nothing left goes on there
 abbrev pub passed : Bool → List Float → Leg → Pos → Told
 passed true cs g p = cutFrom cs g (place p f0)
 passed false cs g p = record { events = []; pos = p }
@@ -59,7 +59,7 @@ unfoldable pub walkFrom : List Float → Vec2 → List Vec2 → Pos → List Eve
 walkFrom cs a [] p = []
 walkFrom cs a (b ∷ ps) p =
     let g = legOf a b in
-    let c = passed (counts g) cs g p in
+    let c = passed (isWalked g) cs g p in
     c .events ++ walkFrom cs b ps (c .pos)
 
 abbrev pub walkPolyline : List Float → Pos → List Vec2 → List Event
@@ -90,7 +90,7 @@ unfoldable pub meetsFrom : List Float → Vec2 → List Vec2 → Pos → Bool
 meetsFrom cs a [] p = false
 meetsFrom cs a (b ∷ ps) p =
     let g = legOf a b in
-    (counts g && nothingLeft p) || meetsFrom cs b ps (passed (counts g) cs g p .pos)
+    (isWalked g && nothingLeft p) || meetsFrom cs b ps (passed (isWalked g) cs g p .pos)
 
 abbrev pub meets : List Float → Pos → List Vec2 → Bool
 meets cs start [] = false

@@ -102,8 +102,8 @@ abbrev pub legOf : Vec2 → Vec2 → Leg
 legOf a b = record { from = a; way = b ⊖ a; to = b; length = len (b ⊖ a) }
 
 -- a leg is walked where its length is finite and above 0
-abbrev pub counts : Leg → Bool
-counts g = isFinite (g .length) && not (le (g .length) f0)
+abbrev pub isWalked : Leg → Bool
+isWalked g = isFinite (g .length) && not (le (g .length) f0)
 
 abbrev pub passed : Bool → List Float → Leg → Pos → Told
 passed true cs g p = cutLeg (nothingLeft p) cs g p
@@ -113,7 +113,7 @@ unfoldable pub walkFrom : List Float → Vec2 → List Vec2 → Pos → List Eve
 walkFrom cs a [] p = []
 walkFrom cs a (b ∷ ps) p =
     let g = legOf a b in
-    let c = passed (counts g) cs g p in
+    let c = passed (isWalked g) cs g p in
     c .events ++ walkFrom cs b ps (c .pos)
 
 abbrev pub walkPolyline : List Float → Pos → List Vec2 → List Event

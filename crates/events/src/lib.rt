@@ -17,7 +17,7 @@ pub struct Leg {
 }
 
 // What a turn of the walk tells. Cut: a dash ends inside a leg, at the second point. Reach: a corner, the second point, is reached while drawing.
-// Both give the point where the dash began, if the pen was up. Pass: a corner is reached in a gap. Nothing: a gap ends inside a leg, or an interval ended
+// Both give the point where the dash began, as the source works it out, if the pen was up. Pass: a corner is reached in a gap. Nothing: a gap ends inside a leg, or an interval ended
 // where the leg begins; the pen is up.
 pub enum Event {
     Nothing,

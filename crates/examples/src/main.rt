@@ -1,6 +1,6 @@
 // The unstarred checked examples of the scope, run end to end: calls on a builder, flattening, dashing, and the questions.
 use builder::PathBuilder;
-use dash::Dashed;
+use outline::Dashed;
 use path::Cursor;
 use path::FillRule;
 use path::Segment;
@@ -132,7 +132,7 @@ fn print_built(verbs: &[u8], points: &[f32], v: usize, p: usize, intervals: &[f3
 fn print_played(kinds: &[u8], numbers: &[f32], intervals: &[f32]) {
     let mut verbs = [0u8; 16];
     let mut points = [0.0f32; 32];
-    let r = claims::replay(kinds, numbers, &mut verbs, &mut points);
+    let r = replay::replay(kinds, numbers, &mut verbs, &mut points);
     print_built(&verbs, &points, r.state.verbs, r.state.points, intervals);
 }
 
@@ -161,8 +161,8 @@ fn print_verdict(what: &[u8], points: &[f32]) {
     let v = convexity::polygon_convexity(points);
     let c = v.convexity;
     match c {
-        convexity::answer::Convexity::Convex => say(b": Convex\n"),
-        convexity::answer::Convexity::Concave => say(b": Concave\n"),
+        turns::Convexity::Convex => say(b": Convex\n"),
+        turns::Convexity::Concave => say(b": Concave\n"),
     }
 }
 

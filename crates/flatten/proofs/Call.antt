@@ -1,55 +1,25 @@
 -- The call: each way out gives what the definition gives. Assumes nothing.
 use mathlib.Core.Path.{_≡_, refl, sym, _∙_}
-use mathlib.Core.Bool.{Bool, true, false, not, _||_, cond, true≢false}
+use mathlib.Core.Bool.{Bool, true, false, not, _||_, cond}
 use mathlib.Core.List.{List}
 use Prim.Native.Nat.{ℕ, zero, suc, _+_, _*_, _/_, _%_, _≤_, _<_}
 use native.Mathlib.Omega.{arith}
-use borrow.Author.Tests.{lt-ltb, le-ltb, eq-eqb, ne-eqb, ltb-false, eqb-true, not-false}
-use lib.Dec.{ltb, eqb}
+use borrow.Author.Tests.{lt-ltb, le-ltb, eq-eqb, ne-eqb}
 use lib.ListN.{length}
 use lib.Seq.{sets}
 use lib.Ieee.{Float}
 use Rattle.vec2.specs.Points.{flat}
+use Rattle.vec2.proofs.Tests.{first-false}
 use Rattle.path.specs.Segment.{segments}
-use Rattle.path.specs.Check.{usedBy, anyOver4, badFirst, badPath}
-use Rattle.flatten.specs.declared.Flattened.{Flattened}
-use Rattle.flatten.specs.declared.Tally.{Tally}
-use Rattle.flatten.specs.Flatten.{nowhere, pointsOut, endsOut, flatRefusal, outcome, refusedBy, flatten}
-use Rattle.flatten.specs.Steps.{none, measured}
-use Rattle.flatten.specs.Subpaths.{marksOut}
-use Rattle.flatten.proofs.Measures.{Meant, meant}
-use Rattle.flatten.proofs.Polylines.{marks-ends}
-
--- ---- a path that is not refused
-
-pub first-false : (a b : Bool) → (a || b) ≡ false → (a ≡ false) × (b ≡ false)
-first-false true b h = absurd (true≢false h)
-first-false false b h = (refl, h)
-
-pub record Sound (vs : List ℕ) (fs : List Float) : Type 0 where
-  pub few : length vs ≤ 65536
-  pub first : badFirst vs ≡ false
-  pub used : usedBy vs ≡ length fs / 2
-
-none-of : (a b d e : Bool) → _≡_ {A = ℕ} (cond a 1 (cond b 4 (cond d 5 (cond e 6 0)))) 0 → (b ≡ false) × (e ≡ false)
-none-of true b d e h = absurd (omega arith)
-none-of false true d e h = absurd (omega arith)
-none-of false false true e h = absurd (omega arith)
-none-of false false false true h = absurd (omega arith)
-none-of false false false false h = (refl, refl)
-
-pub sound : (vs : List ℕ) (fs : List Float) → badPath vs fs ≡ 0 → Sound vs fs
-unfolding badPath
-sound vs fs h =
-    let n = none-of (eqb (length fs % 2) 1) (ltb 65536 (length vs) || ltb 131072 (length fs / 2)) (anyOver4 vs) (badFirst vs || not (eqb (usedBy vs) (length fs / 2))) h in
-    let f = first-false (badFirst vs) (not (eqb (usedBy vs) (length fs / 2))) (n .1) in
-    record {
-      few = ltb-false 65536 (length vs) (first-false (ltb 65536 (length vs)) (ltb 131072 (length fs / 2)) (n .0) .0);
-      first = f .0;
-      used = eqb-true (usedBy vs) (length fs / 2) (not-false _ (f .1));
-    }
-
--- ---- the ways out, in their order
+use Rattle.path.specs.Check.{usedBy, badPath, anyOver4, badFirst}
+use Rattle.polyline.specs.declared.Flattened.{Flattened}
+use Rattle.polyline.specs.declared.Tally.{Tally}
+use Rattle.polyline.specs.Flatten.{nowhere, pointsOut, endsOut, flatRefusal, outcome, refusedBy, flatten}
+use Rattle.measure.specs.Measure.{none, measured}
+use Rattle.polyline.specs.Subpaths.{marksOut}
+use Rattle.measure.proofs.Measures.{Meant, meant}
+use Rattle.polyline.proofs.Polylines.{marks-ends}
+use Rattle.polyline.proofs.Good.{sound}
 
 module _ (vs : List ℕ) (fs : List Float) (tol : Float) (out : List Float) (es ms : List ℕ) where
   -- the answer, with the outputs as they were

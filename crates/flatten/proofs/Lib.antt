@@ -1,13 +1,2 @@
-pub mod Points
-pub mod Spots
-pub mod Lengths
-pub mod Measures
-pub mod Writes
 pub mod Call
 pub mod Counts
-pub mod Ends
-pub mod Subpaths
-pub mod Polylines
-pub mod Laws
-pub mod Kept
-pub mod Source

@@ -2,7 +2,7 @@
 use mathlib.Core.Path.{_≡_, refl}
 use mathlib.Core.Bool.{Bool, true, false, not, _||_, cond}
 use mathlib.Core.List.{List, [], _∷_}
-use Prim.Native.Nat.{ℕ, _+_, _/_, _%_, _≤_, _<_}
+use Prim.Native.Nat.{ℕ, zero, suc, _+_, _/_, _%_, _≤_, _<_}
 use native.Mathlib.Numerals.{add-one}
 use native.Mathlib.Omega.{arith}
 use borrow.Author.Tests.{lt-ltb, le-ltb, ltb-false, eq-eqb, ne-eqb}
@@ -10,13 +10,18 @@ use lib.Dec.{ltb, eqb}
 use lib.ListN.{length, getD, drop, drop-of-length-le}
 use lib.Seq.{drop-cons}
 use lib.Ieee.{Float}
+use Rattle.vec2.proofs.Tests.{first-false}
 use Rattle.path.specs.Check.{maxVerbs, maxPoints, anyOver4, badFirst, badPath, badList, usedBy}
 
 module _ (vs : List ℕ) (i : ℕ) (h : i < length vs) where
   -- found before i, or from i on
-  pub over-next : (found r : Bool) → r ≡ (found || ltb 4 (getD vs i 0)) → r || anyOver4 (drop (i + 1) vs) ≡ found || anyOver4 (drop i vs)
-  over-next true r e = rw e
-  over-next false r e = rw (e, add-one i, drop-cons vs i 0 h)
+  pub over-here : (found r : Bool) → 4 < getD vs i 0 → r ≡ true → r || anyOver4 (drop (i + 1) vs) ≡ found || anyOver4 (drop i vs)
+  over-here true r g e = rw e
+  over-here false r g e = rw (e, drop-cons vs i 0 h, lt-ltb 4 (getD vs i 0) g)
+
+  pub over-not : (found r : Bool) → getD vs i 0 ≤ 4 → r ≡ found → r || anyOver4 (drop (i + 1) vs) ≡ found || anyOver4 (drop i vs)
+  over-not true r g e = rw e
+  over-not false r g e = rw (e, add-one i, drop-cons vs i 0 h, le-ltb 4 (getD vs i 0) g)
 
 pub over-none : (vs : List ℕ) (i : ℕ) (found : Bool) → length vs ≤ i → found ≡ (found || anyOver4 (drop i vs))
 over-none vs i true h = refl
@@ -29,6 +34,12 @@ first-none (v ∷ vs) h = absurd (omega arith)
 pub first-some : (vs : List ℕ) → (length vs ≡ 0 → ⊥) → not (eqb (getD vs 0 0) 0) ≡ badFirst vs
 first-some [] h = absurd (h refl)
 first-some (v ∷ vs) h = refl
+
+-- where no byte is over 4, none is
+pub known : (vs : List ℕ) (i : ℕ) → i < length vs → anyOver4 vs ≡ false → getD vs i 0 ≤ 4
+known [] i h e = absurd (omega arith)
+known (v ∷ vs) zero h e = ltb-false 4 v (first-false (ltb 4 v) (anyOver4 vs) e .0)
+known (v ∷ vs) (suc i) h e = known vs i (omega arith) (first-false (ltb 4 v) (anyOver4 vs) e .1)
 
 -- ---- the refusals, in their order
 

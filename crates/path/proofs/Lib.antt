@@ -2,5 +2,4 @@ pub mod Checks
 pub mod Segments
 pub mod Encoded
 pub mod Steps
-pub mod Rects
 pub mod Styles

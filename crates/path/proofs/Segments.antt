@@ -1,12 +1,14 @@
 -- A segment read by its verb: what a `match` on the verb shows of `segAt`. Assumes nothing.
-use mathlib.Core.Path.{_≡_, refl}
+use mathlib.Core.Path.{_≡_, refl, sym}
 use mathlib.Core.List.{List}
-use Prim.Native.Nat.{ℕ, zero, suc, _+_}
+use Prim.Native.Nat.{ℕ, zero, suc, _+_, _≤_}
+use native.Mathlib.Omega.{arith}
+use lib.ListN.{List·getD-eq-default}
 use lib.Ieee.{Float}
 use Rattle.vec2.specs.Points.{pointAt}
 use Rattle.path.specs.declared.Segment.the-variants.{Move, Line, Quad, Cubic, Close}
 use Rattle.vec2.specs.declared.Vec2.{Vec2}
-use Rattle.path.specs.Segment.{segAt, used}
+use Rattle.path.specs.Segment.{segAt, table, used}
 
 module _ (v : ℕ) (fs : List Float) (k : ℕ) where
   pub seg-move : (p : Vec2) → v ≡ 0 → p ≡ pointAt fs k → Move p ≡ segAt v fs k
@@ -28,11 +30,17 @@ seg-close (suc (suc zero)) fs k a b c d = absurd (c refl)
 seg-close (suc (suc (suc zero))) fs k a b c d = absurd (d refl)
 seg-close (suc (suc (suc (suc v)))) fs k a b c d = refl
 
--- the table: a byte that is no verb uses none
-pub used-past : (v : ℕ) → (v ≡ 0 → ⊥) → (v ≡ 1 → ⊥) → (v ≡ 2 → ⊥) → (v ≡ 3 → ⊥) → (v ≡ 4 → ⊥) → 0 ≡ used v
-used-past zero a b c d e = absurd (a refl)
-used-past (suc zero) a b c d e = absurd (b refl)
-used-past (suc (suc zero)) a b c d e = absurd (c refl)
-used-past (suc (suc (suc zero))) a b c d e = absurd (d refl)
-used-past (suc (suc (suc (suc zero)))) a b c d e = absurd (e refl)
-used-past (suc (suc (suc (suc (suc v))))) a b c d e = refl
+-- ---- the table
+
+-- a byte that is no verb uses none
+pub used-past : (v : ℕ) → 5 ≤ v → 0 ≡ used v
+used-past v h = sym (List·getD-eq-default table 0 h)
+
+-- a verb uses at most three
+pub used-few : (v : ℕ) → used v ≤ 3
+used-few zero = omega arith
+used-few (suc zero) = omega arith
+used-few (suc (suc zero)) = omega arith
+used-few (suc (suc (suc zero))) = omega arith
+used-few (suc (suc (suc (suc zero)))) = omega arith
+used-few (suc (suc (suc (suc (suc v))))) = omega arith

@@ -1,6 +1,6 @@
 -- The cursor's answer, made and taken apart. Assumes nothing.
 use mathlib.Core.Path.{_≡_, refl, sym, ap, _∙_}
-use mathlib.Core.Bool.{Bool, true, false, cond, _||_, true≢false}
+use mathlib.Core.Bool.{Bool, true, false, cond, _||_}
 use mathlib.Core.List.{List, _∷_}
 use Prim.Native.Nat.{ℕ, suc, _+_, _*_, _/_, _≤_, _<_}
 use native.Mathlib.Numerals.{add-one}
@@ -10,6 +10,7 @@ use lib.Dec.{leb, ltb}
 use lib.ListN.{length, getD, drop}
 use lib.Seq.{drop-cons}
 use lib.Ieee.{Float}
+use Rattle.vec2.proofs.Tests.{first-false}
 use Rattle.path.specs.declared.Segment.{Segment}
 use Rattle.path.specs.Segment.{used, segAt, segsFrom}
 use Rattle.path.specs.Check.{usedBy}
@@ -20,20 +21,16 @@ use Rattle.path.specs.Cursor.{ends, nextOf}
 
 -- ---- what is left behind i verbs and k points, and the next of it
 
-abbrev pub left : List ℕ → List Float → ℕ → ℕ → List Segment
-left vs fs i k = segsFrom (drop i vs) fs k
+abbrev pub segmentsLeft : List ℕ → List Float → ℕ → ℕ → List Segment
+segmentsLeft vs fs i k = segsFrom (drop i vs) fs k
 
 pub next-left : (vs : List ℕ) (fs : List Float) (i k : ℕ) → i < length vs →
-    left vs fs i k ≡ segAt (getD vs i 0) fs k ∷ left vs fs (suc i) (k + used (getD vs i 0))
+    segmentsLeft vs fs i k ≡ segAt (getD vs i 0) fs k ∷ segmentsLeft vs fs (suc i) (k + used (getD vs i 0))
 next-left vs fs i k h = ap (λ (r : List ℕ). segsFrom r fs k) (drop-cons vs i 0 h)
 
 -- the points that the verbs left still use
 pub used-turn : (vs : List ℕ) (i : ℕ) → i < length vs → usedBy (drop i vs) ≡ used (getD vs i 0) + usedBy (drop (i + 1) vs)
 used-turn vs i h = rw (add-one i) (ap usedBy (drop-cons vs i 0 h))
-
-first-false : (a b : Bool) → (a || b) ≡ false → (a ≡ false) × (b ≡ false)
-first-false true b h = absurd (true≢false h)
-first-false false b h = (refl, h)
 
 abbrev behind : List ℕ → Cursor → Cursor
 behind vs c = record { verb = c .verb + 1; point = c .point + used (getD vs (c .verb) 0) }

@@ -1,13 +1,12 @@
 // A path: verbs as bytes, each with its points in a buffer of floats, read by a cursor; and the check of a path that is handed in.
 ghost use mathlib.Core.Path.{_≡_};
-ghost use mathlib.Core.Bool.{_||_};
+ghost use mathlib.Core.Bool.{false};
 ghost use Prim.Native.Nat.{_+_, _*_, _≤_, _<_};
 ghost use lib.ListN.{length};
 ghost use Rattle.vec2.specs.Points.{pointAt};
-ghost use Rattle.path.specs.Rect.{rect, emptyRect, widened, isEmptyRect, between, holds, widthOf, heightOf};
 ghost use Rattle.path.specs.Segment.{used, segAt};
 ghost use Rattle.path.specs.Style.{styleRow};
-ghost use Rattle.path.specs.Check.{usedBy, anyOver4, badFirst, badList, badPath};
+ghost use Rattle.path.specs.Check.{maxVerbs, usedBy, anyOver4, badFirst, badList, badPath};
 ghost use Rattle.path.specs.Cursor.{nextOf};
 use vec2::Vec2;
 
@@ -15,78 +14,6 @@ use vec2::Vec2;
 pub enum FillRule {
     NonZero,
     EvenOdd,
-}
-
-// An axis-aligned bounding box.
-#[repr(C)]
-pub struct Rect {
-    pub min: Vec2,
-    pub max: Vec2,
-}
-
-fn within(v: f32, low: f32, high: f32) -> bool
-    ensures { λ b. ⌜ b ≡ between low v high ⌝ }
-{
-    v >= low && v <= high
-}
-
-impl Rect {
-    pub fn new(min: Vec2, max: Vec2) -> Rect
-        ensures { λ r. ⌜ r ≡ rect min max ⌝ }
-    {
-        Rect { min, max }
-    }
-
-    // The rect that holds nothing, from +∞ to −∞: it takes in any point.
-    pub fn empty() -> Rect
-        ensures { λ r. ⌜ r ≡ emptyRect ⌝ }
-    {
-        let high = f32::from_bits(0x7f80_0000);
-        let low = f32::from_bits(0xff80_0000);
-        Rect {
-            min: Vec2 { x: high, y: high },
-            max: Vec2 { x: low, y: low },
-        }
-    }
-
-    pub fn is_empty(self) -> bool
-        ensures { λ b. ⌜ b ≡ isEmptyRect self ⌝ }
-    {
-        self.min.x > self.max.x || self.min.y > self.max.y
-    }
-
-    // The rect with one point more.
-    pub fn union_point(self, p: Vec2) -> Rect
-        ensures { λ r. ⌜ r ≡ widened self p ⌝ }
-    {
-        let min = self.min;
-        let max = self.max;
-        Rect {
-            min: min.min(p),
-            max: max.max(p),
-        }
-    }
-
-    pub fn contains(self, p: Vec2) -> bool
-        ensures { λ b. ⌜ b ≡ holds self p ⌝ }
-    {
-        if within(p.x, self.min.x, self.max.x) {
-            return within(p.y, self.min.y, self.max.y);
-        }
-        false
-    }
-
-    pub fn width(self) -> f32
-        ensures { λ w. ⌜ w ≡ widthOf self ⌝ }
-    {
-        float::max(self.max.x - self.min.x, 0.0)
-    }
-
-    pub fn height(self) -> f32
-        ensures { λ h. ⌜ h ≡ heightOf self ⌝ }
-    {
-        float::max(self.max.y - self.min.y, 0.0)
-    }
 }
 
 // A verb with the points that it uses.
@@ -122,19 +49,21 @@ const STYLES: [[f32; 6]; 9] = [
 
 const STYLE_LENGTHS: [usize; 9] = [0, 2, 2, 2, 4, 6, 1, 3, 2];
 
-// The points that a verb uses; none for a byte that is no verb. The table is read at fixed places: the compiler lays it out anew for each read at a
-// place that varies.
+fn wide(count: u8) -> usize
+    ensures { λ r. ⌜ (r ≡ count) × (r ≤ 255) ⌝ }
+{
+    count as usize
+}
+
+// The points that a verb uses; none for a byte that is no verb.
 pub fn point_count(verb: u8) -> usize
     ensures { λ r. ⌜ (r ≡ used verb) × (r ≤ 3) ⌝ }
 {
-    match verb {
-        0 => POINT_COUNTS[0] as usize,
-        1 => POINT_COUNTS[1] as usize,
-        2 => POINT_COUNTS[2] as usize,
-        3 => POINT_COUNTS[3] as usize,
-        4 => POINT_COUNTS[4] as usize,
-        _ => 0,
+    let at = verb as usize;
+    if at < 5 {
+        return wide(POINT_COUNTS[at]);
     }
+    0
 }
 
 // A line style's row: its intervals are the first `len` of `values`, the others 0.
@@ -158,12 +87,6 @@ pub fn style(number: usize) -> StyleRow
 
 // ---- the path that is handed in
 
-fn either(a: bool, b: bool) -> bool
-    ensures { λ r. ⌜ r ≡ (a || b) ⌝ }
-{
-    a || b
-}
-
 // Every byte is looked at, so that many go at once.
 fn any_over_4(verbs: &[u8]) -> bool
     ensures { λ r. ⌜ r ≡ anyOver4 (now (verbs .entry)) ⌝ }
@@ -172,22 +95,25 @@ fn any_over_4(verbs: &[u8]) -> bool
     let mut i: usize = 0;
     while i < verbs.len() {
         let v = verbs[i];
-        found = either(found, 4 < v);
+        if 4 < v {
+            found = true;
+        }
         i += 1;
     }
     found
 }
 
-// The points that the verbs use.
+// The points that the verbs use. The table is copied once: the compiler lays a constant out anew wherever it is read.
 fn points_of(verbs: &[u8]) -> usize
-    requires { ⌜ length (now verbs) ≤ 65536 ⌝ }
+    requires { ⌜ (length (now verbs) ≤ maxVerbs) × (anyOver4 (now verbs) ≡ false) ⌝ }
     ensures { λ r. ⌜ r ≡ usedBy (now (verbs .entry)) ⌝ }
 {
+    let counts = POINT_COUNTS;
     let mut n: usize = 0;
     let mut i: usize = 0;
     while i < verbs.len() {
-        let v = verbs[i];
-        n += point_count(v);
+        let at = verbs[i] as usize;
+        n += wide(counts[at]);
         i += 1;
     }
     n

@@ -1,18 +1,31 @@
 -- A pattern's tests and its working cycle (`is_usable`, `cycle`, dash.rs; "Dash" of the scope). Definitions only.
-use Prim.Native.Nat.{_%_}
+use Prim.Native.Nat.{ℕ, _%_}
 use mathlib.Core.Path.{_≡_}
 use mathlib.Core.Logic.{_⊎_}
 use mathlib.Core.Bool.{Bool, true, false, _&&_, cond}
 use mathlib.Core.List.{List, [], _∷_, _++_}
-use lib.ListN.{length}
+use lib.ListN.{length, replicate}
+use lib.Seq.{sets}
 use lib.Dec.{eqb}
 use lib.Ieee.{Float, binary32, ofBits, lt, le}
 use Rattle.float.specs.Arith.{plus, f0}
 use Rattle.float.specs.Small.{isFinite}
+use Rattle.pattern.specs.declared.Cycle.{Cycle}
+
+-- the most intervals of a pattern, and of its working cycle
+abbrev pub maxIntervals : ℕ
+maxIntervals = 64
+
+abbrev pub maxCycle : ℕ
+maxCycle = 128
 
 -- the working cycle: an odd pattern laid twice
 abbrev pub cycleOf : List Float → List Float
 cycleOf ps = cond (eqb (length ps % 2) 0) ps (ps ++ ps)
+
+-- the array that holds it: zeros behind it, and how many intervals it has
+abbrev pub workingCycle : List Float → Cycle
+workingCycle ps = record { values = sets (replicate maxCycle f0) 0 (cycleOf ps); len = length (cycleOf ps) }
 
 -- added first to last, from s on
 abbrev pub sumFrom : Float → List Float → Float

@@ -8,10 +8,11 @@ use lib.Dec.{ltb}
 use lib.Ieee.{Float}
 use Rattle.float.specs.Arith.{f0}
 use Rattle.path.specs.Style.{styleOf}
+use Rattle.pattern.specs.Cycle.{maxIntervals}
 use Rattle.pattern.specs.declared.LineStyle.{LineStyle}
 
 abbrev pub answer : List Float → ℕ → LineStyle
-answer xs n = record { values = sets (replicate 64 f0) 0 xs; len = length xs; refused = n }
+answer xs n = record { values = sets (replicate maxIntervals f0) 0 xs; len = length xs; refused = n }
 
 -- style n of the table; 9 for a style over 8
 abbrev pub lineStyle : ℕ → LineStyle

@@ -1,11 +1,16 @@
 // A dash pattern: whether it can be walked, its working cycle, and the line styles.
 ghost use mathlib.Core.Path.{_≡_};
 ghost use Prim.Native.Nat.{_+_, _≤_};
-ghost use lib.ListN.{length, take};
+ghost use lib.ListN.{length};
 ghost use lib.Seq.{sets};
 ghost use Rattle.float.specs.Arith.{f0};
-ghost use Rattle.pattern.specs.Cycle.{cycleOf, sumFrom, goodInterval, allGood, usable, cuts};
+ghost use Rattle.pattern.specs.Cycle.{maxIntervals, cycleOf, workingCycle, sumFrom, goodInterval, allGood, usable, cuts};
 ghost use Rattle.pattern.specs.Style.{lineStyle};
+
+// The most intervals of a pattern, and of its working cycle.
+pub const MAX_INTERVALS: usize = 64;
+
+const MAX_CYCLE: usize = 128;
 
 // Copies `src` into `dst` from `at` on.
 fn copy_in(dst: &mut [f32], at: usize, src: &[f32])
@@ -24,7 +29,7 @@ fn copy_in(dst: &mut [f32], at: usize, src: &[f32])
 // A line style: its intervals are the first `len` of `values`, the others 0. `refused` is 9 for a style over 8.
 #[repr(C)]
 pub struct LineStyle {
-    pub values: [f32; 64],
+    pub values: [f32; MAX_INTERVALS],
     pub len: usize,
     pub refused: u8,
 }
@@ -33,7 +38,7 @@ pub struct LineStyle {
 pub fn line_style(number: usize) -> LineStyle
     ensures { λ r. ⌜ r ≡ lineStyle number ⌝ }
 {
-    let mut values = [0.0f32; 64];
+    let mut values = [0.0f32; MAX_INTERVALS];
     if 8 < number {
         return LineStyle {
             values,
@@ -107,18 +112,18 @@ pub fn is_usable(intervals: &[f32], phase: f32) -> bool
     false
 }
 
-// The working cycle: the first `len` of `values`.
+// The working cycle: the first `len` of `values`, the others 0.
 pub struct Cycle {
-    pub values: [f32; 128],
+    pub values: [f32; MAX_CYCLE],
     pub len: usize,
 }
 
 // The intervals as an even-length cycle: an odd pattern is laid twice.
 pub fn cycle_of(intervals: &[f32]) -> Cycle
-    requires { ⌜ length (now intervals) ≤ 64 ⌝ }
-    ensures { λ r. ⌜ (r .len ≡ length (cycleOf (now (intervals .entry)))) × (take (r .len) (r .values) ≡ cycleOf (now (intervals .entry))) ⌝ }
+    requires { ⌜ length (now intervals) ≤ maxIntervals ⌝ }
+    ensures { λ r. ⌜ r ≡ workingCycle (now (intervals .entry)) ⌝ }
 {
-    let mut values = [0.0f32; 128];
+    let mut values = [0.0f32; MAX_CYCLE];
     let n = intervals.len();
     copy_in(&mut values, 0, intervals);
     if n % 2 == 0 {

@@ -1,6 +1,6 @@
 // The scope's flattening examples, corner paths and each refusal, run; the points are those of the Rust source. A line for each: `ok` or `NO`, and what it is.
 ghost use Prim.Native.Nat.{_≤_};
-use flatten::Flattened;
+use polyline::Flattened;
 use vec2::Vec2;
 
 fn say(ok: bool, name: &[u8]) {
@@ -36,35 +36,57 @@ fn equal(a: &[f32], b: &[f32]) -> bool {
     true
 }
 
-// The totals, where no curve is held back.
-fn totals(
-    r: Flattened,
-    polylines: usize,
-    starts: usize,
-    lines: usize,
-    counts: usize,
-    closings: usize,
+// The totals: polylines, which are the kept starts, lines, counts and closings, where no curve is held back.
+fn totals(r: Flattened, t: [usize; 4]) -> bool {
+    let first = r.polylines == t[0] && r.starts == t[0] && r.lines == t[1];
+    first && r.counts == t[2] && r.closings == t[3] && r.held == 0 && r.refused == 0
+}
+
+fn same_ends(a: [usize; 3], b: [usize; 3]) -> bool {
+    a[0] == b[0] && a[1] == b[1] && a[2] == b[2]
+}
+
+fn same_marks(a: [u8; 3], b: [u8; 3]) -> bool {
+    a[0] == b[0] && a[1] == b[1] && a[2] == b[2]
+}
+
+// Whether a path flattens to these points, and no others, with these totals, ends and marks; 99 and 9 stand where no end and no mark is written.
+fn gives(
+    verbs: &[u8],
+    points: &[f32],
+    want: &[f32],
+    sums: [usize; 4],
+    last: [usize; 3],
+    shut: [u8; 3],
 ) -> bool {
-    let first = r.polylines == polylines && r.starts == starts && r.lines == lines;
-    first && r.counts == counts && r.closings == closings && r.held == 0 && r.refused == 0
+    let mut out = [7.0f32; 24];
+    let mut ends = [99usize; 3];
+    let mut marks = [9u8; 3];
+    let r = flatten::flatten(
+        verbs,
+        points,
+        curve::DEFAULT_TOLERANCE,
+        &mut out,
+        &mut ends,
+        &mut marks,
+    );
+    let n = want.len();
+    if 22 < n {
+        return false;
+    }
+    let alone = r.points == n / 2 && out[n] == 7.0 && out[n + 1] == 7.0;
+    alone
+        && equal(&out[0..n], want)
+        && totals(r, sums)
+        && same_ends(ends, last)
+        && same_marks(marks, shut)
 }
 
 // ---- what is written
 
 fn quad_of_five() -> bool {
     let points: [f32; 6] = [0.0, 0.0, 8.0, 8.0, 16.0, 0.0];
-    let mut out = [7.0f32; 16];
-    let mut ends = [99usize; 2];
-    let mut marks = [9u8; 2];
-    let r = flatten::flatten(
-        &[0, 2, 4],
-        &points,
-        curve::DEFAULT_TOLERANCE,
-        &mut out,
-        &mut ends,
-        &mut marks,
-    );
-    let want: [f32; 16] = [
+    let want: [f32; 14] = [
         0.0,
         0.0,
         3.2000003,
@@ -79,19 +101,19 @@ fn quad_of_five() -> bool {
         0.0,
         0.0,
         0.0,
-        7.0,
-        7.0,
     ];
-    let lone = ends[0] == 7 && ends[1] == 99 && marks[0] == 1 && marks[1] == 9;
-    totals(r, 1, 1, 0, 5, 1) && r.points == 7 && equal(&out, &want) && lone
+    gives(
+        &[0, 2, 4],
+        &points,
+        &want,
+        [1, 0, 5, 1],
+        [7, 99, 99],
+        [1, 9, 9],
+    )
 }
 
 fn cubic_of_nine() -> bool {
     let points: [f32; 8] = [0.0, 0.0, 0.0, 8.0, 16.0, 8.0, 16.0, 0.0];
-    let mut out = [7.0f32; 20];
-    let mut ends = [99usize; 1];
-    let mut marks = [9u8; 1];
-    let r = flatten::flatten(&[0, 3], &points, 0.25, &mut out, &mut ends, &mut marks);
     let want: [f32; 20] = [
         0.0,
         0.0,
@@ -114,29 +136,53 @@ fn cubic_of_nine() -> bool {
         16.0,
         0.0,
     ];
-    totals(r, 1, 1, 0, 9, 0)
-        && r.points == 10
-        && equal(&out, &want)
-        && ends[0] == 10
-        && marks[0] == 0
+    gives(
+        &[0, 3],
+        &points,
+        &want,
+        [1, 0, 9, 0],
+        [10, 99, 99],
+        [0, 9, 9],
+    )
+}
+
+// Whether the verb at `index` has this count, is held back or not, and is refused by this number.
+fn carried(
+    verbs: &[u8],
+    points: &[f32],
+    tolerance: f32,
+    index: usize,
+    count: usize,
+    held: bool,
+    refused: u8,
+) -> bool {
+    let r = flatten::carried_count(verbs, points, tolerance, index);
+    r.count == count && r.held == held && r.refused == refused
 }
 
 fn counts() -> bool {
+    let bent: [f32; 6] = [0.0, 0.0, 8.0, 8.0, 16.0, 0.0];
+    let flat: [f32; 6] = [0.0, 0.0, 8.0, 0.0, 16.0, 0.0];
+    let bow: [f32; 8] = [0.0, 0.0, 0.0, 8.0, 16.0, 8.0, 16.0, 0.0];
     let quad: [u8; 2] = [0, 2];
-    let cubic: [u8; 2] = [0, 3];
-    let bent = flatten::carried_count(&quad, &[0.0, 0.0, 8.0, 8.0, 16.0, 0.0], 0.25, 1);
-    let flat = flatten::carried_count(&quad, &[0.0, 0.0, 8.0, 0.0, 16.0, 0.0], 0.25, 1);
-    let bow = flatten::carried_count(&cubic, &[0.0, 0.0, 0.0, 8.0, 16.0, 8.0, 16.0, 0.0], 0.25, 1);
-    let start = flatten::carried_count(&quad, &[0.0, 0.0, 8.0, 0.0, 16.0, 0.0], 0.25, 0);
-    let past = flatten::carried_count(&quad, &[0.0, 0.0, 8.0, 0.0, 16.0, 0.0], 0.25, 2);
-    let bad = flatten::carried_count(&quad, &[0.0, 0.0, 8.0, 0.0], 0.25, 1);
-    let found = bent.count == 5 && flat.count == 1 && bow.count == 9;
-    found
-        && start.count == 0
-        && past.count == 0
-        && past.refused == 0
-        && bad.count == 0
-        && bad.refused == 6
+    carried(&quad, &bent, 0.25, 1, 5, false, 0)
+        && carried(&quad, &flat, 0.25, 1, 1, false, 0)
+        && carried(&[0, 3], &bow, 0.25, 1, 9, false, 0)
+        && carried(&quad, &flat, 0.25, 0, 0, false, 0)
+        && carried(&quad, &flat, 0.25, 2, 0, false, 0)
+        && carried(&quad, &flat[0..4], 0.25, 1, 0, false, 6)
+}
+
+// Whether a quad's count is n, and is held back or not.
+fn quad(a: Vec2, c: Vec2, p: Vec2, tolerance: f32, n: u32, held: bool) -> bool {
+    let r = curve::quad_segment_count(a, c, p, tolerance);
+    r.count == n && r.held == held
+}
+
+// The same for a cubic.
+fn cubic(a: Vec2, c: Vec2, d: Vec2, p: Vec2, n: u32, held: bool) -> bool {
+    let r = curve::cubic_segment_count(a, c, d, p, 0.25);
+    r.count == n && r.held == held
 }
 
 // A NaN, no tolerance, and a difference too large for a float.
@@ -145,25 +191,26 @@ fn odd_counts() -> bool {
     let up = Vec2::new(8.0, 8.0);
     let across = Vec2::new(16.0, 0.0);
     let nowhere = Vec2::new(0.0 / 0.0, 0.0);
-    let loose = curve::quad_segment_count(o, up, across, 0.0 / 0.0);
-    let below = curve::quad_segment_count(o, up, across, -1.0);
-    let lost = curve::quad_segment_count(nowhere, up, across, 0.25);
-    let half = curve::cubic_segment_count(
+    let loose = quad(o, up, across, 0.0 / 0.0, 1000, true);
+    let below = quad(o, up, across, -1.0, 1000, true);
+    let lost = quad(nowhere, up, across, 0.25, 1, false);
+    let half = cubic(
         nowhere,
         Vec2::new(0.0, 8.0),
         Vec2::new(16.0, 8.0),
         across,
-        0.25,
+        9,
+        false,
     );
-    let far = curve::quad_segment_count(o, Vec2::new(3.0e38, 0.0), Vec2::new(0.0, 3.0e38), 0.25);
-    let counted = loose.count == 1000 && below.count == 1000 && lost.count == 1;
-    let held = loose.held && below.held && far.held;
-    counted
-        && half.count == 9
-        && far.count == curve::MAX_SEGMENTS
-        && held
-        && !lost.held
-        && !half.held
+    let far = quad(
+        o,
+        Vec2::new(3.0e38, 0.0),
+        Vec2::new(0.0, 3.0e38),
+        0.25,
+        curve::MAX_SEGMENTS,
+        true,
+    );
+    loose && below && lost && half && far
 }
 
 fn scales() -> bool {
@@ -189,14 +236,45 @@ const TIGHT: f32 = 3.539e-7;
 
 const TWO_QUADS: [f32; 10] = [0.0, 0.0, 0.0, 0.0, 1.0, 0.0, 1.0, 0.0, 3.0, 0.0];
 
+// Whether a path flattens into so many floats with these counts and held curves, is refused by this number, and leaves these ends and marks.
+fn tight(
+    verbs: &[u8],
+    points: &[f32],
+    floats: usize,
+    sums: [usize; 2],
+    refused: u8,
+    last: [usize; 3],
+    shut: [u8; 3],
+) -> bool
+    requires { ⌜ floats ≤ 4006 ⌝ }
+{
+    let mut out = [7.0f32; 4006];
+    let mut ends = [99usize; 3];
+    let mut marks = [9u8; 3];
+    let r = flatten::flatten(
+        verbs,
+        points,
+        TIGHT,
+        &mut out[0..floats],
+        &mut ends,
+        &mut marks,
+    );
+    let told = r.counts == sums[0] && r.held == sums[1] && r.refused == refused;
+    told && same_ends(ends, last) && same_marks(marks, shut)
+}
+
 // Two quads of 1,000 lines each: of the first no more are wanted, the second is held back.
 fn held_back() -> bool {
     let points = TWO_QUADS;
-    let mut out = [7.0f32; 4002];
-    let mut ends = [99usize; 1];
-    let mut marks = [9u8; 1];
-    let r = flatten::flatten(&[0, 2, 2], &points, TIGHT, &mut out, &mut ends, &mut marks);
-    r.counts == 2000 && r.held == 1 && r.refused == 0 && ends[0] == 2001 && marks[0] == 0
+    tight(
+        &[0, 2, 2],
+        &points,
+        4002,
+        [2000, 1],
+        0,
+        [2001, 99, 99],
+        [0, 9, 9],
+    )
 }
 
 // A quad held back in each of two polylines, with a line behind the second.
@@ -217,41 +295,46 @@ fn two_held_back() -> bool {
         8.0,
         0.0,
     ];
-    let mut out = [7.0f32; 4006];
-    let mut ends = [99usize; 2];
-    let mut marks = [9u8; 2];
-    let r = flatten::flatten(
+    tight(
         &[0, 2, 0, 2, 1],
         &points,
-        TIGHT,
-        &mut out,
-        &mut ends,
-        &mut marks,
-    );
-    let placed = ends[0] == 1001 && ends[1] == 2003 && marks[0] == 0 && marks[1] == 0;
-    r.counts == 2000 && r.held == 2 && r.refused == 0 && placed
+        4006,
+        [2000, 2],
+        0,
+        [1001, 2003, 99],
+        [0, 0, 9],
+    )
 }
 
 // One point short: a refusal says 0.
 fn held_and_refused() -> bool {
     let points = TWO_QUADS;
-    let mut out = [7.0f32; 4000];
-    let mut ends = [99usize; 1];
-    let mut marks = [9u8; 1];
-    let r = flatten::flatten(&[0, 2, 2], &points, TIGHT, &mut out, &mut ends, &mut marks);
-    r.counts == 0 && r.held == 0 && r.refused == 3 && ends[0] == 99 && marks[0] == 9
+    tight(
+        &[0, 2, 2],
+        &points,
+        4000,
+        [0, 0],
+        3,
+        [99, 99, 99],
+        [9, 9, 9],
+    )
 }
 
 // Which curve is held back, asked verb by verb: the second, and nothing else.
 fn held_at() -> bool {
     let points = TWO_QUADS;
-    let start = flatten::carried_count(&[0, 2, 2], &points, TIGHT, 0);
-    let full = flatten::carried_count(&[0, 2, 2], &points, TIGHT, 1);
-    let held = flatten::carried_count(&[0, 2, 2], &points, TIGHT, 2);
-    let past = flatten::carried_count(&[0, 2, 2], &points, TIGHT, 3);
-    let bad = flatten::carried_count(&[0, 2, 5], &points, TIGHT, 2);
-    let counted = full.count == 1000 && held.count == 1000 && held.held && !full.held;
-    counted && !start.held && !past.held && !bad.held && bad.refused == 5
+    let verbs: [u8; 3] = [0, 2, 2];
+    carried(&verbs, &points, TIGHT, 0, 0, false, 0)
+        && carried(&verbs, &points, TIGHT, 1, 1000, false, 0)
+        && carried(&verbs, &points, TIGHT, 2, 1000, true, 0)
+        && carried(&verbs, &points, TIGHT, 3, 0, false, 0)
+        && carried(&[0, 2, 5], &points, TIGHT, 2, 0, false, 5)
+}
+
+// Whether the count of s is n, and is held back or not.
+fn count_of(s: f32, n: u32, held: bool) -> bool {
+    let r = float::segment_count(s);
+    r.count == n && r.held == held
 }
 
 // Held back: an infinite s, and a cubic of which either difference alone asks for more, even beside one that is a NaN. Not held back: −∞, a NaN, and a
@@ -260,29 +343,19 @@ fn held_curves() -> bool {
     let o = Vec2::zero();
     let one = Vec2::new(1.0, 0.0);
     let two = Vec2::new(2.0, 0.0);
-    let endless = curve::quad_segment_count(o, one, Vec2::new(1.0 / 0.0, 0.0), 0.25);
-    let behind = curve::cubic_segment_count(o, one, two, Vec2::new(1.0e6, 0.0), 0.25);
-    let before = curve::cubic_segment_count(Vec2::new(1.0e6, 0.0), two, one, o, 0.25);
-    let half = curve::cubic_segment_count(o, one, two, Vec2::new(1.0e6, 0.0 / 0.0), 0.25);
-    let other = curve::cubic_segment_count(
-        Vec2::new(0.0 / 0.0, 0.0),
-        o,
-        o,
-        Vec2::new(1.0e6, 0.0),
-        0.25,
-    );
-    let below = float::segment_count(-1.0 / 0.0);
-    let lost = float::segment_count(0.0 / 0.0);
-    let exact = float::segment_count(1000000.0);
-    let next = float::segment_count(1000000.06);
-    let held = endless.held && behind.held && before.held && other.held && next.held;
-    held
-        && !half.held
-        && !below.held
-        && !lost.held
-        && !exact.held
-        && exact.count == 1000
-        && next.count == 1000
+    let far = Vec2::new(1.0e6, 0.0);
+    quad(o, one, Vec2::new(1.0 / 0.0, 0.0), 0.25, 1000, true)
+        && cubic(o, one, two, far, 1000, true)
+        && cubic(far, two, one, o, 1000, true)
+        && cubic(o, one, two, Vec2::new(1.0e6, 0.0 / 0.0), 1, false)
+        && cubic(Vec2::new(0.0 / 0.0, 0.0), o, o, far, 1000, true)
+}
+
+fn held_numbers() -> bool {
+    count_of(-1.0 / 0.0, 1, false)
+        && count_of(0.0 / 0.0, 1, false)
+        && count_of(1000000.0, 1000, false)
+        && count_of(1000000.06, 1000, true)
 }
 
 // ---- closing
@@ -290,75 +363,64 @@ fn held_curves() -> bool {
 // -0 is back at 0, so no closing is added; a line after it is closed again.
 fn closed_by_value() -> bool {
     let points: [f32; 8] = [0.0, 0.0, 4.0, 0.0, -0.0, 0.0, 1.0, 1.0];
-    let mut out = [7.0f32; 12];
-    let mut ends = [99usize; 2];
-    let mut marks = [9u8; 2];
-    let r = flatten::flatten(
+    let want: [f32; 10] = [0.0, 0.0, 4.0, 0.0, -0.0, 0.0, 1.0, 1.0, 0.0, 0.0];
+    gives(
         &[0, 1, 1, 4, 1, 4],
+        &points,
+        &want,
+        [1, 3, 0, 1],
+        [5, 99, 99],
+        [1, 9, 9],
+    )
+}
+
+// The -0 is written as it is.
+fn sign_kept() -> bool {
+    let points: [f32; 6] = [0.0, 0.0, 4.0, 0.0, -0.0, 0.0];
+    let mut out = [7.0f32; 6];
+    let mut ends = [99usize; 1];
+    let mut marks = [9u8; 1];
+    flatten::flatten(
+        &[0, 1, 1, 4],
         &points,
         0.25,
         &mut out,
         &mut ends,
         &mut marks,
     );
-    let want: [f32; 12] = [0.0, 0.0, 4.0, 0.0, -0.0, 0.0, 1.0, 1.0, 0.0, 0.0, 7.0, 7.0];
-    totals(r, 1, 1, 3, 0, 1)
-        && equal(&out, &want)
-        && 1.0 / out[4] < 0.0
-        && ends[0] == 5
-        && marks[0] == 1
-        && marks[1] == 9
+    1.0 / out[4] < 0.0
 }
 
 fn closed_twice() -> bool {
     let points: [f32; 6] = [1.0, 1.0, 4.0, 1.0, 2.0, 5.0];
-    let mut out = [7.0f32; 12];
-    let mut ends = [99usize; 2];
-    let mut marks = [9u8; 2];
-    let r = flatten::flatten(
+    let want: [f32; 10] = [1.0, 1.0, 4.0, 1.0, 1.0, 1.0, 2.0, 5.0, 1.0, 1.0];
+    gives(
         &[0, 1, 4, 4, 1, 4],
         &points,
-        0.25,
-        &mut out,
-        &mut ends,
-        &mut marks,
-    );
-    let want: [f32; 12] = [1.0, 1.0, 4.0, 1.0, 1.0, 1.0, 2.0, 5.0, 1.0, 1.0, 7.0, 7.0];
-    totals(r, 1, 1, 2, 0, 2) && equal(&out, &want) && ends[0] == 5 && marks[0] == 1
+        &want,
+        [1, 2, 0, 2],
+        [5, 99, 99],
+        [1, 9, 9],
+    )
 }
 
 // A NaN start equals nothing, so nothing closes it; a curve drawn from it is one line.
 fn nan_start() -> bool {
     let points: [f32; 8] = [0.0 / 0.0, 1.0, 4.0, 1.0, 1.0, 1.0, 2.0, 2.0];
-    let mut out = [7.0f32; 8];
-    let mut ends = [99usize; 2];
-    let mut marks = [9u8; 2];
-    let r = flatten::flatten(
+    let want: [f32; 6] = [0.0 / 0.0, 1.0, 4.0, 1.0, 2.0, 2.0];
+    gives(
         &[0, 1, 4, 2, 4],
         &points,
-        0.25,
-        &mut out,
-        &mut ends,
-        &mut marks,
-    );
-    let want: [f32; 8] = [0.0 / 0.0, 1.0, 4.0, 1.0, 2.0, 2.0, 7.0, 7.0];
-    totals(r, 1, 1, 1, 1, 0) && equal(&out, &want) && ends[0] == 3 && marks[0] == 1
+        &want,
+        [1, 1, 1, 0],
+        [3, 99, 99],
+        [1, 9, 9],
+    )
 }
 
 // A curve after a close starts at the move's point and goes on in the same polyline.
 fn curve_after_close() -> bool {
     let points: [f32; 8] = [0.0, 0.0, 16.0, 0.0, 8.0, 8.0, 16.0, 0.0];
-    let mut out = [7.0f32; 18];
-    let mut ends = [99usize; 1];
-    let mut marks = [9u8; 1];
-    let r = flatten::flatten(
-        &[0, 1, 4, 2, 4],
-        &points,
-        0.25,
-        &mut out,
-        &mut ends,
-        &mut marks,
-    );
     let want: [f32; 18] = [
         0.0,
         0.0,
@@ -379,7 +441,14 @@ fn curve_after_close() -> bool {
         0.0,
         0.0,
     ];
-    totals(r, 1, 1, 1, 5, 2) && equal(&out, &want) && ends[0] == 9 && marks[0] == 1
+    gives(
+        &[0, 1, 4, 2, 4],
+        &points,
+        &want,
+        [1, 1, 5, 2],
+        [9, 99, 99],
+        [1, 9, 9],
+    )
 }
 
 // ---- subpaths
@@ -387,98 +456,69 @@ fn curve_after_close() -> bool {
 // A subpath with no drawn verb writes nothing, wherever it stands.
 fn empty_subpaths() -> bool {
     let points: [f32; 10] = [1.0, 1.0, 2.0, 2.0, 3.0, 3.0, 4.0, 4.0, 5.0, 5.0];
-    let mut out = [7.0f32; 6];
-    let mut ends = [99usize; 2];
-    let mut marks = [9u8; 2];
-    let r = flatten::flatten(
+    let want: [f32; 4] = [3.0, 3.0, 4.0, 4.0];
+    gives(
         &[0, 4, 0, 0, 1, 0],
         &points,
-        0.25,
-        &mut out,
-        &mut ends,
-        &mut marks,
-    );
-    let want: [f32; 6] = [3.0, 3.0, 4.0, 4.0, 7.0, 7.0];
-    let lone = ends[0] == 2 && ends[1] == 99 && marks[0] == 0 && marks[1] == 9;
-    totals(r, 1, 1, 1, 0, 0) && r.points == 2 && equal(&out, &want) && lone
+        &want,
+        [1, 1, 0, 0],
+        [2, 99, 99],
+        [0, 9, 9],
+    )
 }
 
 fn two_polylines() -> bool {
     let points: [f32; 10] = [0.0, 0.0, 4.0, 0.0, 4.0, 4.0, 9.0, 9.0, 8.0, 8.0];
-    let mut out = [7.0f32; 14];
-    let mut ends = [99usize; 3];
-    let mut marks = [9u8; 3];
-    let r = flatten::flatten(
+    let want: [f32; 12] = [0.0, 0.0, 4.0, 0.0, 4.0, 4.0, 0.0, 0.0, 9.0, 9.0, 8.0, 8.0];
+    gives(
         &[0, 1, 1, 4, 0, 1],
         &points,
-        0.25,
-        &mut out,
-        &mut ends,
-        &mut marks,
-    );
-    let want: [f32; 14] = [
-        0.0,
-        0.0,
-        4.0,
-        0.0,
-        4.0,
-        4.0,
-        0.0,
-        0.0,
-        9.0,
-        9.0,
-        8.0,
-        8.0,
-        7.0,
-        7.0,
-    ];
-    totals(r, 2, 2, 3, 0, 1)
-        && equal(&out, &want)
-        && ends[0] == 4
-        && ends[1] == 6
-        && ends[2] == 99
-        && marks[0] == 1
-        && marks[1] == 0
-        && marks[2] == 9
+        &want,
+        [2, 3, 0, 1],
+        [4, 6, 99],
+        [1, 0, 9],
+    )
 }
 
 fn nothing() -> bool {
     let verbs: [u8; 0] = [];
     let points: [f32; 0] = [];
-    let mut out = [7.0f32; 2];
-    let mut ends = [99usize; 1];
-    let mut marks = [9u8; 1];
-    let r = flatten::flatten(&verbs, &points, 0.25, &mut out, &mut ends, &mut marks);
-    totals(r, 0, 0, 0, 0, 0) && r.points == 0 && out[0] == 7.0 && ends[0] == 99 && marks[0] == 9
+    gives(
+        &verbs,
+        &points,
+        &points,
+        [0, 0, 0, 0],
+        [99, 99, 99],
+        [9, 9, 9],
+    )
 }
 
 // ---- marks
 
 // Whether a path flattens with so many added closings and these marks; 9 stands where no mark is written.
-fn marked(verbs: &[u8], points: &[f32], closings: usize, a: u8, b: u8, c: u8) -> bool {
+fn marked(verbs: &[u8], points: &[f32], closings: usize, shut: [u8; 3]) -> bool {
     let mut out = [7.0f32; 24];
     let mut ends = [99usize; 3];
     let mut marks = [9u8; 3];
     let r = flatten::flatten(verbs, points, 0.25, &mut out, &mut ends, &mut marks);
-    r.refused == 0 && r.closings == closings && marks[0] == a && marks[1] == b && marks[2] == c
+    r.refused == 0 && r.closings == closings && same_marks(marks, shut)
 }
 
 // By the subpath's last verb, whatever closings were added before it.
 fn marks_by_last_verb() -> bool {
     let points: [f32; 6] = [0.0, 0.0, 4.0, 0.0, 4.0, 4.0];
-    let open = marked(&[0, 1, 1], &points, 0, 0, 9, 9);
-    let shut = marked(&[0, 1, 1, 4], &points, 1, 1, 9, 9);
-    let drawn_on = marked(&[0, 1, 4, 1], &points, 1, 0, 9, 9);
-    let twice = marked(&[0, 1, 4, 4], &points[0..4], 1, 1, 9, 9);
-    let early = marked(&[0, 4, 1], &points[0..4], 0, 0, 9, 9);
-    open && shut && drawn_on && twice && early
+    marked(&[0, 1, 1], &points, 0, [0, 9, 9])
+        && marked(&[0, 1, 1, 4], &points, 1, [1, 9, 9])
+        && marked(&[0, 1, 4, 1], &points, 1, [0, 9, 9])
+        && marked(&[0, 1, 4, 4], &points[0..4], 1, [1, 9, 9])
+        && marked(&[0, 4, 1], &points[0..4], 0, [0, 9, 9])
 }
 
 // A close that adds no point is a close: back at the start already, or from a NaN start.
 fn marks_without_a_point() -> bool {
     let back: [f32; 6] = [0.0, 0.0, 4.0, 0.0, 0.0, 0.0];
     let nan: [f32; 4] = [0.0 / 0.0, 0.0, 4.0, 0.0];
-    marked(&[0, 1, 1, 4], &back, 0, 1, 9, 9) && marked(&[0, 1, 4], &nan, 0, 1, 9, 9)
+    marked(&[0, 1, 1, 4], &back, 0, [1, 9, 9]) && marked(&[0, 1, 4], &nan, 0, [1, 9, 9])
 }
 
 // One for each polyline, none for a subpath that has none: M Z; M L Z, M, M Z L, M L Z.
@@ -499,9 +539,8 @@ fn marks_for_polylines() -> bool {
         6.0,
         6.0,
     ];
-    let none = marked(&[0, 4], &points[0..2], 0, 9, 9, 9);
-    let three = marked(&[0, 1, 4, 0, 0, 4, 1, 0, 1, 4], &points, 2, 1, 0, 1);
-    none && three
+    marked(&[0, 4], &points[0..2], 0, [9, 9, 9])
+        && marked(&[0, 1, 4, 0, 0, 4, 1, 0, 1, 4], &points, 2, [1, 0, 1])
 }
 
 // ---- refusals
@@ -542,45 +581,63 @@ fn path_refusals() -> bool {
     odd == 1 && odd_out == 1 && strange == 5 && unmoved == 6 && short == 6
 }
 
+// The refusal's number of so many verbs of no kind.
+fn refusal_of_many(n: usize) -> u8
+    requires { ⌜ n ≤ 65537 ⌝ }
+{
+    let verbs = [5u8; 65537];
+    refusal_of(&verbs[0..n], &[0.0, 0.0], 2, 2, 2)
+}
+
 // Over a limit: 4, before a bad verb.
 fn limits() -> bool {
-    let verbs = [5u8; 65537];
-    let points: [f32; 6] = [0.0, 0.0, 8.0, 8.0, 16.0, 0.0];
-    let many = refusal_of(&verbs, &points, 2, 2, 2);
-    let full = refusal_of(&verbs[0..65536], &points, 2, 2, 2);
-    many == 4 && full == 5
+    refusal_of_many(65537) == 4 && refusal_of_many(65536) == 5
 }
 
 // Buffers exactly full, and each one short.
 fn room() -> bool {
     let points: [f32; 6] = [0.0, 0.0, 8.0, 8.0, 16.0, 0.0];
-    let small = refusal_of(&[0, 2, 4], &points, 12, 1, 1);
-    let no_ends = refusal_of(&[0, 2, 4], &points, 14, 0, 1);
-    let no_marks = refusal_of(&[0, 2, 4], &points, 14, 1, 0);
-    let fits = refusal_of(&[0, 2, 4], &points, 14, 1, 1);
+    let verbs: [u8; 3] = [0, 2, 4];
+    let small = refusal_of(&verbs, &points, 12, 1, 1);
+    let no_ends = refusal_of(&verbs, &points, 14, 0, 1);
+    let no_marks = refusal_of(&verbs, &points, 14, 1, 0);
+    let fits = refusal_of(&verbs, &points, 14, 1, 1);
     let no_need = refusal_of(&[0], &points[0..2], 0, 0, 0);
     small == 3 && no_ends == 3 && no_marks == 3 && fits == 0 && no_need == 0
 }
 
-fn main() {
+// ---- a line for each
+
+fn say_written() {
     say(quad_of_five(), b"quad of five lines, closed");
     say(cubic_of_nine(), b"cubic of nine lines");
     say(counts(), b"carried counts 5, 1, 9, none");
     say(odd_counts(), b"counts of NaN, no tolerance and too far");
+}
+
+fn say_held() {
     say(held_back(), b"one of two curves held back");
     say(two_held_back(), b"two curves held back");
     say(held_and_refused(), b"none held back in a refusal");
     say(held_at(), b"the verb of a curve that is held back");
+    let all = held_curves() && held_numbers();
     say(
-        held_curves(),
+        all,
         b"held back: infinite, by either difference, past 1,000,000",
     );
+}
+
+fn say_closed() {
     say(scales(), b"tolerance for a scale");
     say(middles(), b"middles of curves");
-    say(closed_by_value(), b"closing by value");
+    let closed = closed_by_value() && sign_kept();
+    say(closed, b"closing by value");
     say(closed_twice(), b"closed twice");
     say(nan_start(), b"NaN start");
     say(curve_after_close(), b"curve after a close");
+}
+
+fn say_marked() {
     say(empty_subpaths(), b"empty subpaths");
     say(two_polylines(), b"two polylines");
     say(nothing(), b"no verbs");
@@ -590,7 +647,18 @@ fn main() {
         b"marks where no closing point is added",
     );
     say(marks_for_polylines(), b"a mark for each polyline");
+}
+
+fn say_refused() {
     say(path_refusals(), b"refusals of a path");
     say(limits(), b"limits");
     say(room(), b"room");
+}
+
+fn main() {
+    say_written();
+    say_held();
+    say_closed();
+    say_marked();
+    say_refused();
 }

@@ -1,8 +1,8 @@
 // Outlines and the answers to the questions about them: convexity, bounds, finiteness and range. The expected lines stand in `stdout`.
 use bounds::reply::Answer;
-use convexity::answer::Convexity;
-use convexity::answer::Verdict;
-use path::Rect;
+use rect::Rect;
+use turns::Convexity;
+use turns::Verdict;
 use vec2::Vec2;
 
 fn say(line: &[u8]) {

@@ -1,5 +1,10 @@
 // A point, or the way from one point to another: glam's Vec2 as the scope reads it, by value.
 ghost use mathlib.Core.Path.{_≡_};
+ghost use mathlib.Core.List.{_∷_, []};
+ghost use Prim.Native.Nat.{_+_, _*_, _≤_};
+ghost use lib.ListN.{length};
+ghost use lib.Seq.{sets};
+ghost use Rattle.vec2.specs.Points.{flat};
 ghost use Rattle.vec2.specs.Vec2.{vec, origin, _⊕_, _⊖_, _⊙_, _⊘_, len, perpDot, minimum, maximum, absOf, maxElement, anyNan, allFinite, sameAs};
 
 #[repr(C)]
@@ -135,4 +140,14 @@ impl Vec2 {
         }
         false
     }
+}
+
+// Stores a point in a buffer of points.
+pub fn put(out: &mut [f32], at: usize, p: Vec2)
+    requires { ⌜ 2 * (at + 1) ≤ length (now out) ⌝ }
+    ensures { λ r. ⌜ now (out .exit) ≡ sets (now (out .entry)) (2 * at) (flat (p ∷ [])) ⌝ }
+{
+    let j = 2 * at;
+    out[j] = p.x;
+    out[j + 1] = p.y;
 }

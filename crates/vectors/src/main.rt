@@ -5,15 +5,15 @@
 // A float is its pattern; every NaN is one here, since `from_bits` takes none. Floats, ends and marks are lent as 77.5, 7777 and 165 where the list
 // says what is left alone. The number of each case that differs is written out.
 ghost use Prim.Native.Nat.{_≤_, _<_};
-use builder::Call;
 use builder::CurrentPoint;
 use builder::Note;
 use builder::PathBuilder;
-use convexity::answer::Convexity;
-use dash::Dashed;
-use flatten::Flattened;
+use builder::Reply;
+use outline::Dashed;
 use path::FillRule;
-use path::Rect;
+use polyline::Flattened;
+use rect::Rect;
+use turns::Convexity;
 use vec2::Vec2;
 
 // The most words of a case.
@@ -91,25 +91,6 @@ fn rule_of(n: u32) -> FillRule {
         return FillRule::NonZero;
     }
     FillRule::EvenOdd
-}
-
-// The call at word i: its kind, then its points and floats.
-fn call_at(data: &[u32], i: usize) -> Call
-    requires { ⌜ i ≤ 50000 ⌝ }
-{
-    let a = point_at(data, i + 1);
-    let b = point_at(data, i + 3);
-    let c = point_at(data, i + 5);
-    match word_at(data, i) {
-        0 => Call::MoveTo(a),
-        1 => Call::LineTo(a),
-        2 => Call::QuadTo(a, b),
-        3 => Call::CubicTo(a, b, c),
-        4 => Call::Close,
-        5 => Call::ConicTo(a, b, float_at(data, i + 5)),
-        6 => Call::WithFillRule(rule_of(word_at(data, i + 1))),
-        _ => Call::AsRoundedRect(Rect { min: a, max: b }, float_at(data, i + 5)),
-    }
 }
 
 // ---- comparing
@@ -252,6 +233,35 @@ struct Built {
     tape: Tape,
 }
 
+// The answer of a call that takes no buffer.
+fn answer(state: PathBuilder) -> Reply {
+    Reply {
+        state,
+        quads: 0,
+        refused: 0,
+    }
+}
+
+// Plays the call at word i: its kind, then its points and floats.
+fn play(b: PathBuilder, data: &[u32], i: usize, verbs: &mut [u8], points: &mut [f32]) -> Reply
+    requires { ⌜ i ≤ 50000 ⌝ }
+{
+    let p = point_at(data, i + 1);
+    let q = point_at(data, i + 3);
+    let r = point_at(data, i + 5);
+    let w = float_at(data, i + 5);
+    match word_at(data, i) {
+        0 => b.move_to(verbs, points, p),
+        1 => b.line_to(verbs, points, p),
+        2 => b.quad_to(verbs, points, p, q),
+        3 => b.cubic_to(verbs, points, p, q, r),
+        4 => b.close(verbs, points),
+        5 => b.conic_to(verbs, points, p, q, w),
+        6 => answer(b.with_fill_rule(rule_of(word_at(data, i + 1)))),
+        _ => answer(b.as_rounded_rect(Rect { min: p, max: q }, w)),
+    }
+}
+
 // Plays n calls from word i on; of each, how many quads it laid, and that it wasn't refused.
 fn build(data: &[u32], i: usize, n: usize, t: Tape, verbs: &mut [u8], points: &mut [f32]) -> Built
     requires { ⌜ (i ≤ 4352) × (n ≤ 4352) ⌝ }
@@ -260,8 +270,7 @@ fn build(data: &[u32], i: usize, n: usize, t: Tape, verbs: &mut [u8], points: &m
     let mut u = t;
     let mut k: usize = 0;
     while k < n {
-        let call = call_at(data, i + 7 * k);
-        let r = state.play(verbs, points, call);
+        let r = play(state, data, i + 7 * k, verbs, points);
         state = r.state;
         u = expect_count(data, u, r.quads);
         u = expect(data, u, wide(r.refused));

@@ -1,15 +1,15 @@
 -- `calls::bytes` is safe and ends. Assumes nothing.
 use borrow.Author.Needs.{needs}
-use Prim.Native.Nat.{_-_, _≤_}
+use Prim.Native.Nat.{_-_}
 use lib.ListN.{length}
 use Rattle.calls.proofs.bytes.Statement.{statement}
 use Rattle.calls.proofs.bytes.Tie as tie
 
 abbrev Inv-loop : tie.InvT-loop
-Inv-loop verbs i₀ t4 i = i ≤ length verbs
+Inv-loop verbs start i₀ t4 i = Unit {0}
 
 abbrev μ-loop : tie.MeasureT-loop
-μ-loop verbs i₀ t4 i = length verbs - i
+μ-loop verbs start i₀ t4 i = length verbs - i
 
 slice-aggregate-word : tie.Need-slice-aggregate-word Inv-loop μ-loop
 slice-aggregate-word c = search needs

@@ -1,15 +1,15 @@
 -- `calls::floats` is safe and ends. Assumes nothing.
 use borrow.Author.Needs.{needs}
-use Prim.Native.Nat.{_-_, _≤_}
+use Prim.Native.Nat.{_-_}
 use lib.ListN.{length}
 use Rattle.calls.proofs.floats.Statement.{statement}
 use Rattle.calls.proofs.floats.Tie as tie
 
 abbrev Inv-loop : tie.InvT-loop
-Inv-loop points i₀ t4 i = i ≤ length points
+Inv-loop points start i₀ t4 i = Unit {0}
 
 abbrev μ-loop : tie.MeasureT-loop
-μ-loop points i₀ t4 i = length points - i
+μ-loop points start i₀ t4 i = length points - i
 
 slice-aggregate-word : tie.Need-slice-aggregate-word Inv-loop μ-loop
 slice-aggregate-word c = search needs

@@ -1,5 +1,5 @@
 -- `hz_as_rounded_rect` meets its contract. Assumes nothing.
-use Rattle.capi.proofs.Exported.{told-out}
+use Rattle.crossing.proofs.Exported.{told-out}
 use borrow.Author.Needs.{needs}
 use Rattle.capi.proofs.hz_as_rounded_rect.Statement.{statement}
 use Rattle.capi.proofs.hz_as_rounded_rect.Tie as tie

@@ -1,5 +1,5 @@
 -- `hz_close` meets its contract. Assumes nothing.
-use Rattle.capi.proofs.Exported.{exported}
+use Rattle.crossing.proofs.Exported.{exported}
 use borrow.Author.Needs.{needs}
 use Rattle.capi.proofs.hz_close.Statement.{statement}
 use Rattle.capi.proofs.hz_close.Tie as tie

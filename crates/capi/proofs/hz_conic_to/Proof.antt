@@ -1,5 +1,5 @@
 -- `hz_conic_to` meets its contract. Assumes nothing.
-use Rattle.capi.proofs.Exported.{exported}
+use Rattle.crossing.proofs.Exported.{exported}
 use borrow.Author.Needs.{needs}
 use Rattle.capi.proofs.hz_conic_to.Statement.{statement}
 use Rattle.capi.proofs.hz_conic_to.Tie as tie
@@ -7,8 +7,8 @@ use Rattle.capi.proofs.hz_conic_to.Tie as tie
 state-in-requires : tie.Need-state-in-requires
 state-in-requires c κs = search needs
 
-measured-conic-to-requires : tie.Need-measured-conic-to-requires
-measured-conic-to-requires c κs = search needs
+conic-to-requires : tie.Need-conic-to-requires
+conic-to-requires c κs = search needs
 
 reply-out-requires : tie.Need-reply-out-requires
 reply-out-requires c κs = search needs
@@ -20,14 +20,14 @@ same-length-2 : tie.Need-same-length-2
 same-length-2 c = search needs
 
 returns : tie.Need-returns
-returns c = exported _ _ _ _ _ _ (c .reply-out .ensures) (c .before .before .before .before .before .measured-conic-to .ensures) (c .before .before .before .before .before .before .before .before .state-in .ensures)
+returns c = exported _ _ _ _ _ _ (c .reply-out .ensures) (c .before .before .before .before .before .conic-to .ensures) (c .before .before .before .before .before .before .before .before .state-in .ensures)
 
 pub hz-conic-to-spec : {M : Type 1} → statement M
 hz-conic-to-spec =
     tie.close
     (tie.spec
     state-in-requires
-    measured-conic-to-requires
+    conic-to-requires
     reply-out-requires
     same-length
     same-length-2

@@ -1,5 +1,5 @@
 -- `hz_cubic_to` meets its contract. Assumes nothing.
-use Rattle.capi.proofs.Exported.{exported}
+use Rattle.crossing.proofs.Exported.{exported}
 use borrow.Author.Needs.{needs}
 use Rattle.capi.proofs.hz_cubic_to.Statement.{statement}
 use Rattle.capi.proofs.hz_cubic_to.Tie as tie

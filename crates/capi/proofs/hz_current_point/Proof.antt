@@ -1,7 +1,7 @@
 -- `hz_current_point` meets its contract. Assumes nothing.
 use mathlib.Core.Path.{ap, _∙_}
 use Rattle.builder.specs.Build.{currentOf}
-use Rattle.capi.specs.Builder.{pointOut}
+use Rattle.crossing.specs.Builder.{pointOut}
 use borrow.Author.Needs.{needs}
 use Rattle.capi.proofs.hz_current_point.Statement.{statement}
 use Rattle.capi.proofs.hz_current_point.Tie as tie

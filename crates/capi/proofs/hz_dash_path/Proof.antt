@@ -1,5 +1,5 @@
 -- `hz_dash_path` meets its contract. Assumes nothing.
-use Rattle.capi.proofs.Dashes.{dash-out}
+use Rattle.crossing.proofs.Dashes.{dash-out}
 use borrow.Author.Needs.{needs}
 use Rattle.capi.proofs.hz_dash_path.Statement.{statement}
 use Rattle.capi.proofs.hz_dash_path.Tie as tie

@@ -1,5 +1,5 @@
 -- `hz_drawn_outline` meets its contract. Assumes nothing.
-use Rattle.capi.specs.Dash.{hzOutline}
+use Rattle.crossing.specs.Dash.{hzOutline}
 use borrow.Author.Needs.{needs}
 use Rattle.capi.proofs.hz_drawn_outline.Statement.{statement}
 use Rattle.capi.proofs.hz_drawn_outline.Tie as tie

@@ -1,6 +1,6 @@
 -- `hz_new` meets its contract. Assumes nothing.
 use mathlib.Core.Path.{ap, _∙_}
-use Rattle.capi.specs.Builder.{stateOut}
+use Rattle.crossing.specs.Builder.{stateOut}
 use borrow.Author.Needs.{needs}
 use Rattle.capi.proofs.hz_new.Statement.{statement}
 use Rattle.capi.proofs.hz_new.Tie as tie

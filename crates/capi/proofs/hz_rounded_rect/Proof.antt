@@ -1,7 +1,7 @@
 -- `hz_rounded_rect` meets its contract. Assumes nothing.
 use mathlib.Core.Path.{ap, _∙_}
 use Rattle.builder.specs.Build.{noteOf}
-use Rattle.capi.specs.Builder.{noteOut}
+use Rattle.crossing.specs.Builder.{noteOut}
 use borrow.Author.Needs.{needs}
 use Rattle.capi.proofs.hz_rounded_rect.Statement.{statement}
 use Rattle.capi.proofs.hz_rounded_rect.Tie as tie

@@ -1,5 +1,5 @@
 -- `hz_with_fill_rule` meets its contract. Assumes nothing.
-use Rattle.capi.proofs.Exported.{ruled-out}
+use Rattle.crossing.proofs.Exported.{ruled-out}
 use borrow.Author.Needs.{needs}
 use Rattle.capi.proofs.hz_with_fill_rule.Statement.{statement}
 use Rattle.capi.proofs.hz_with_fill_rule.Tie as tie

@@ -1,6 +1,6 @@
 -- `conic::is_near` meets its contract. Assumes nothing.
 use mathlib.Core.Path.{_∙_}
-use Rattle.conic.specs.Conic.{nearMidBy}
+use Rattle.halves.specs.Conic.{nearMid}
 use borrow.Author.Needs.{needs}
 use Rattle.conic.proofs.is_near.Statement.{statement}
 use Rattle.conic.proofs.is_near.Tie as tie
@@ -21,7 +21,7 @@ is-within-requires : tie.Need-is-within-requires
 is-within-requires c κs = search needs
 
 returns : tie.Need-returns
-unfolding nearMidBy
+unfolding nearMid
 returns c = c .is-within .ensures ∙ rw (c .before .square-of2 .ensures, c .before .before .mid-gap .ensures, c .before .before .before .square-of .ensures, c .before .before .before .before .sub .ensures)
 
 pub is-near-spec : {M : Type 1} → statement M

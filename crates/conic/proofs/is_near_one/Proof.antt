@@ -1,6 +1,6 @@
 -- `conic::is_near_one` meets its contract. Assumes nothing.
-use Rattle.conic.specs.Conic.{nearOne}
-use Rattle.conic.proofs.Sides.{within-both, over-one}
+use Rattle.halves.specs.Conic.{nearOne}
+use Rattle.halves.proofs.Sides.{within-both, over-one}
 use Rattle.conic.proofs.is_near_one.Statement.{statement}
 use Rattle.conic.proofs.is_near_one.Tie as tie
 

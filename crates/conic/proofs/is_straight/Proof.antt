@@ -1,5 +1,5 @@
 -- `conic::is_straight` meets its contract. Assumes nothing.
-use Rattle.conic.specs.Conic.{straight}
+use Rattle.halves.specs.Conic.{straight}
 use borrow.Author.Needs.{needs}
 use Rattle.conic.proofs.is_straight.Statement.{statement}
 use Rattle.conic.proofs.is_straight.Tie as tie

@@ -2,7 +2,7 @@
 use mathlib.Core.Path.{sym, _∙_, subst}
 use lib.Dec.{T}
 use lib.Ieee.{binary32, fits}
-use Rattle.conic.proofs.Clear.{clear-near, clear-far}
+use Rattle.halves.proofs.Clear.{clear-near, clear-far}
 use borrow.Author.Needs.{needs}
 use Rattle.conic.proofs.is_within.Statement.{statement}
 use Rattle.conic.proofs.is_within.Tie as tie

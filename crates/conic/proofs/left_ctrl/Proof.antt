@@ -1,5 +1,6 @@
 -- `conic::left_ctrl` meets its contract. Assumes nothing.
-use Rattle.conic.specs.Conic.{leftOf}
+use mathlib.Core.Path.{_∙_}
+use Rattle.halves.specs.Conic.{leftOf}
 use borrow.Author.Needs.{needs}
 use Rattle.conic.proofs.left_ctrl.Statement.{statement}
 use Rattle.conic.proofs.left_ctrl.Tie as tie
@@ -15,7 +16,7 @@ mul-requires-2 c κs = search needs
 
 returns : tie.Need-returns
 unfolding leftOf
-returns c = cc
+returns c = c .mul2 .ensures ∙ rw (c .before .add .ensures, c .before .before .mul .ensures)
 
 pub left-ctrl-spec : {M : Type 1} → statement M
 left-ctrl-spec = tie.close (tie.spec mul-requires add-requires mul-requires-2 returns)

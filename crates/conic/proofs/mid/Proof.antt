@@ -1,5 +1,5 @@
 -- `conic::mid` meets its contract. Assumes nothing.
-use Rattle.conic.specs.Conic.{middle}
+use Rattle.halves.specs.Conic.{middle}
 use borrow.Author.Needs.{needs}
 use Rattle.conic.proofs.mid.Statement.{statement}
 use Rattle.conic.proofs.mid.Tie as tie

@@ -3,7 +3,7 @@ use mathlib.Core.Path.{refl, _∙_}
 use denote.Ref.{now}
 use native.Mathlib.Omega.{arith}
 use lib.ListN.{length-set}
-use Rattle.conic.proofs.Pieces.{stored-four}
+use Rattle.conic.proofs.Stores.{stored-four}
 use borrow.Author.Needs.{needs}
 use Rattle.conic.proofs.put_quad.Statement.{statement}
 use Rattle.conic.proofs.put_quad.Tie as tie

@@ -1,5 +1,6 @@
 -- `conic::right_ctrl` meets its contract. Assumes nothing.
-use Rattle.conic.specs.Conic.{rightOf}
+use mathlib.Core.Path.{_∙_}
+use Rattle.halves.specs.Conic.{rightOf}
 use borrow.Author.Needs.{needs}
 use Rattle.conic.proofs.right_ctrl.Statement.{statement}
 use Rattle.conic.proofs.right_ctrl.Tie as tie
@@ -15,7 +16,7 @@ mul-requires-2 c κs = search needs
 
 returns : tie.Need-returns
 unfolding rightOf
-returns c = cc
+returns c = c .mul2 .ensures ∙ rw (c .before .add .ensures, c .before .before .mul .ensures)
 
 pub right-ctrl-spec : {M : Type 1} → statement M
 right-ctrl-spec = tie.close (tie.spec mul-requires add-requires mul-requires-2 returns)

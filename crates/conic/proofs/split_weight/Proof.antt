@@ -1,5 +1,5 @@
 -- `conic::split_weight` meets its contract. Assumes nothing.
-use Rattle.conic.specs.Conic.{halfWeight}
+use Rattle.halves.specs.Conic.{halfWeight}
 use borrow.Author.Needs.{needs}
 use Rattle.conic.proofs.split_weight.Statement.{statement}
 use Rattle.conic.proofs.split_weight.Tie as tie
@@ -9,7 +9,7 @@ sqrt-requires c κs = search needs
 
 returns : tie.Need-returns
 unfolding halfWeight
-returns c = cc
+returns c = c .sqrt .ensures
 
 pub split-weight-spec : {M : Type 1} → statement M
 split-weight-spec = tie.close (tie.spec sqrt-requires returns)

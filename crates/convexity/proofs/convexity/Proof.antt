@@ -2,7 +2,7 @@
 use borrow.Author.Tests.{eq-eqb, ne-eqb}
 use mathlib.Core.Path.{sym, _∙_}
 use Rattle.path.proofs.Checks.{path-room}
-use Rattle.convexity.specs.Answer.{pathVerdict}
+use Rattle.turns.specs.Answer.{pathVerdict}
 use borrow.Author.Needs.{needs}
 use Rattle.convexity.proofs.convexity.Statement.{statement}
 use Rattle.convexity.proofs.convexity.Tie as tie

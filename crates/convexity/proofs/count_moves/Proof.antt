@@ -9,8 +9,8 @@ use Prim.Native.Nat.{ℕ, _+_, _-_, _≤_}
 use native.Mathlib.Omega.{arith}
 use native.Mathlib.Nat.{zero-add}
 use lib.ListN.{length, drop, getD}
-use Rattle.convexity.specs.Answer.{moves}
-use Rattle.convexity.proofs.Verbs.{moves-next, moves-none}
+use Rattle.turns.specs.Answer.{moves}
+use Rattle.turns.proofs.Verbs.{moves-next, moves-none}
 use Rattle.convexity.proofs.count_moves.Statement.{statement}
 use Rattle.convexity.proofs.count_moves.Tie as tie
 

@@ -5,8 +5,8 @@ use mathlib.Core.Path.{_≡_, refl, sym, _∙_}
 use Prim.Native.Nat.{_-_, _≤_}
 use native.Mathlib.Omega.{arith}
 use lib.ListN.{length, drop}
-use Rattle.convexity.specs.Answer.{hasCurve}
-use Rattle.convexity.proofs.Verbs.{curve-next, curve-none}
+use Rattle.turns.specs.Answer.{hasCurve}
+use Rattle.turns.proofs.Verbs.{curve-next, curve-none}
 use Rattle.convexity.proofs.has_curve.Statement.{statement}
 use Rattle.convexity.proofs.has_curve.Tie as tie
 

@@ -1,6 +1,6 @@
 -- `path_reason` meets its contract. Assumes nothing.
 use borrow.Author.Tests.{lt-ltb, le-ltb}
-use Rattle.convexity.specs.Answer.{pathReason}
+use Rattle.turns.specs.Answer.{pathReason}
 use borrow.Author.Needs.{needs}
 use Rattle.convexity.proofs.path_reason.Statement.{statement}
 use Rattle.convexity.proofs.path_reason.Tie as tie

@@ -2,7 +2,7 @@
 use borrow.Author.Tests.{eq-eqb, ne-eqb}
 use mathlib.Core.Path.{sym, _∙_}
 use Rattle.path.proofs.Checks.{list-room}
-use Rattle.convexity.specs.Answer.{polygonVerdict}
+use Rattle.turns.specs.Answer.{polygonVerdict}
 use borrow.Author.Needs.{needs}
 use Rattle.convexity.proofs.polygon_convexity.Statement.{statement}
 use Rattle.convexity.proofs.polygon_convexity.Tie as tie

@@ -8,17 +8,17 @@ use lib.ListN.{length, take}
 use lib.Seq.{length-take-le}
 use Rattle.vec2.proofs.Points.{length-flat}
 use Rattle.path.specs.Segment.{segments}
-use Rattle.flatten.specs.Flatten.{pointsOut}
-use Rattle.dash.specs.Ends.{Ordered}
-use Rattle.dash.proofs.Answers.{scratch-full, scratch-kept}
-use Rattle.dash.proofs.Scratch.{Kept, full, kept, ends-ordered}
+use Rattle.polyline.specs.Flatten.{pointsOut}
+use Rattle.outline.specs.Ends.{Ordered}
+use Rattle.outline.proofs.Answers.{scratch-full, scratch-kept}
+use Rattle.outline.proofs.Scratch.{KeptScratch, full, kept, ends-ordered}
 use borrow.Author.Needs.{needs}
 use Rattle.dash.proofs.cut.Statement.{statement}
 use Rattle.dash.proofs.cut.Tie as tie
 
 -- what the flattening leaves where it is not refused
 left : (c : tie.Else1) → let a = c .before .before .before .before .before .before .before .before .before .before .before .before .before .before .before .before .before .before .before .before .before .args in let f = c .before .before .before .before .before .before .before .before .flatten in
-    Kept (now (a .verbs)) (now (a .points)) (a .tolerance) (now (a .scratch)) (now (a .ends)) (now (a .marks)) (c .before .before .before .before .before .before .before .before .before .before .before .before .before .before .before .before .before .before .before .before .before .pre .0) (c .before .before .before .before .before .before .before .before .before .before .before .before .before .before .before .before .before .before .before .before .before .pre .1) (f .result) (f .last .1 .1 .1 .0) (f .last .1 .1 .1 .1 .0) (f .last .1 .1 .1 .1 .1 .0)
+    KeptScratch (now (a .verbs)) (now (a .points)) (a .tolerance) (now (a .scratch)) (now (a .ends)) (now (a .marks)) (c .before .before .before .before .before .before .before .before .before .before .before .before .before .before .before .before .before .before .before .before .before .pre .0) (c .before .before .before .before .before .before .before .before .before .before .before .before .before .before .before .before .before .before .before .before .before .pre .1) (f .result) (f .last .1 .1 .1 .0) (f .last .1 .1 .1 .1 .0) (f .last .1 .1 .1 .1 .1 .0)
 left c =
     let a = c .before .before .before .before .before .before .before .before .before .before .before .before .before .before .before .before .before .before .before .before .before .args in
     let f = c .before .before .before .before .before .before .before .before .flatten in

@@ -7,9 +7,9 @@ use lib.Ieee.{Float}
 use lib.ListN.{length}
 use denote.Ref.{now}
 use borrow.Author.Tests.{le-leb}
-use Rattle.dash.specs.declared.Dashed.{Dashed}
-use Rattle.dash.specs.Answer.{answerOf}
-use Rattle.dash.specs.Outline.{part, outlineOf}
+use Rattle.outline.specs.declared.Dashed.{Dashed}
+use Rattle.outline.specs.Answer.{answerOf}
+use Rattle.outline.specs.Outline.{part, outlineOf}
 use borrow.Author.Needs.{needs}
 use Rattle.dash.proofs.drawn_outline.Statement.{statement}
 use Rattle.dash.proofs.drawn_outline.Tie as tie

@@ -1,6 +1,6 @@
 -- `refusal` meets its contract. Assumes nothing.
 use borrow.Author.Tests.{eq-eqb, ne-eqb, lt-ltb, le-ltb}
-use Rattle.dash.proofs.Answers.{by-path}
+use Rattle.outline.proofs.Answers.{by-path}
 use borrow.Author.Needs.{needs}
 use Rattle.dash.proofs.refusal.Statement.{statement}
 use Rattle.dash.proofs.refusal.Tie as tie

@@ -1,6 +1,6 @@
 use mathlib.Core.Path.{sym, _∙_}
 use native.Mathlib.Omega.{arith}
-use Rattle.flatten.proofs.Call.{sound}
+use Rattle.polyline.proofs.Good.{sound}
 use Rattle.flatten.proofs.Counts.{bad-path, good-path}
 use borrow.Author.Needs.{needs}
 use Rattle.flatten.proofs.carried_count.Statement.{statement}

@@ -6,15 +6,15 @@ use native.Mathlib.Nat.{zero-add, sub-zero}
 use mathlib.Core.List.{List}
 use Rattle.path.specs.Segment.{segments}
 use Rattle.path.specs.Check.{usedBy}
-use Rattle.flatten.specs.Flatten.{nowhere, countAt}
+use Rattle.polyline.specs.Flatten.{nowhere, countAt}
 use Rattle.flatten.proofs.Counts.{count-turn, count-here, count-past}
-use Rattle.path.proofs.Steps.{left, used-turn, Stepped, stepped, ended}
+use Rattle.path.proofs.Steps.{segmentsLeft, used-turn, Stepped, stepped, ended}
 use borrow.Author.Needs.{needs}
 use Rattle.flatten.proofs.count_at.Statement.{statement}
 use Rattle.flatten.proofs.count_at.Tie as tie
 
 abbrev Inv-loop : tie.InvT-loop
-Inv-loop verbs points tolerance index w₀ c₀ w c = (c .verb ≤ index) × (2 * (c .point + usedBy (drop (c .verb) verbs)) ≤ length points) × (countAt tolerance w (left verbs points (c .verb) (c .point)) (index - c .verb) ≡ countAt tolerance nowhere (segments verbs points) index)
+Inv-loop verbs points tolerance index w₀ c₀ w c = (c .verb ≤ index) × (2 * (c .point + usedBy (drop (c .verb) verbs)) ≤ length points) × (countAt tolerance w (segmentsLeft verbs points (c .verb) (c .point)) (index - c .verb) ≡ countAt tolerance nowhere (segments verbs points) index)
 
 abbrev μ-loop : tie.MeasureT-loop
 μ-loop verbs points tolerance index w₀ c₀ w c = length verbs - c .verb

@@ -1,6 +1,7 @@
 use mathlib.Core.Path.{sym, _∙_}
 use native.Mathlib.Omega.{arith}
-use Rattle.flatten.proofs.Call.{sound, odd-out, bad-path, few-points, few-ends, few-marks, has-room, done}
+use Rattle.polyline.proofs.Good.{sound}
+use Rattle.flatten.proofs.Call.{odd-out, bad-path, few-points, few-ends, few-marks, has-room, done}
 use borrow.Author.Needs.{needs}
 use Rattle.flatten.proofs.flatten.Statement.{statement}
 use Rattle.flatten.proofs.flatten.Tie as tie

@@ -1,10 +1,12 @@
 use mathlib.Core.Path.{_≡_, refl, _∙_}
+use mathlib.Core.Logic.{⊎-elim}
 use mathlib.Core.Bool.{_||_}
-use Prim.Native.Nat.{_-_, _≤_}
+use mathlib.Core.List.{List}
+use Prim.Native.Nat.{ℕ, _-_, _≤_}
 use native.Mathlib.Omega.{arith}
 use lib.ListN.{length, drop}
 use Rattle.path.specs.Check.{anyOver4}
-use Rattle.path.proofs.Checks.{over-next, over-none}
+use Rattle.path.proofs.Checks.{over-here, over-not, over-none}
 use borrow.Author.Needs.{needs}
 use Rattle.path.proofs.any_over_4.Statement.{statement}
 use Rattle.path.proofs.any_over_4.Tie as tie
@@ -21,9 +23,6 @@ loop-holds c = (omega arith, refl)
 shared-slice-read-v : tie.Need-shared-slice-read-v Inv-loop μ-loop
 shared-slice-read-v c = search needs
 
-either-requires : tie.Need-either-requires Inv-loop μ-loop
-either-requires c κs = search needs
-
 add-i : tie.Need-add-i Inv-loop μ-loop
 add-i c = search needs
 
@@ -33,10 +32,14 @@ loop-less c = search needs
 loop-again : tie.Need-loop-again Inv-loop μ-loop
 loop-again c =
     let l = c .before .before .before .loop in
-    (omega arith, over-next (c .before .before .before .before .before .args .verbs .now) (l .i) (omega arith) (l .found) _ (c .either .ensures) ∙ l .inv .1)
+    let vs : List ℕ = c .before .before .before .before .args .verbs .now in
+    ⊎-elim
+    (λ w. (omega arith, over-here vs (l .i) (omega arith) (l .found) _ (w .0 .taken) (w .1) ∙ l .inv .1))
+    (λ w. (omega arith, over-not vs (l .i) (omega arith) (l .found) _ (w .0 .left) (w .1) ∙ l .inv .1))
+    (c .if1 .came)
 
 returns : tie.Need-returns Inv-loop μ-loop
-returns c = let l = c .before .loop in over-none (c .before .before .before .args .verbs .now) (l .i) (l .found) (omega arith) ∙ l .inv .1
+returns c = let l = c .before .loop in over-none (c .before .before .args .verbs .now) (l .i) (l .found) (omega arith) ∙ l .inv .1
 
 pub any-over-4-spec : {M : Type 1} → statement M
 any-over-4-spec =
@@ -46,7 +49,6 @@ any-over-4-spec =
     μ-loop
     loop-holds
     shared-slice-read-v
-    either-requires
     add-i
     loop-less
     loop-again

@@ -20,10 +20,7 @@ copy-in-requires : tie.Need-copy-in-requires
 copy-in-requires c κs = search needs
 
 returns : tie.Need-returns
-returns c =
-    let ps = now (c .before .before .before .before .before .args .intervals) in
-    let e = even ps (replicate 128 f0) (omega (arith, c .before .before .before .before .before .pre)) (c .if1 .taken) in
-    (e .0, ap (take (length ps)) (c .before .before .copy-in .ensures) ∙ e .1)
+returns c = even (now (c .before .before .before .before .before .args .intervals)) _ (c .if1 .taken) (c .before .before .copy-in .ensures)
 
 slice-aggregate-copy-in-2 : tie.Need-slice-aggregate-copy-in-2
 slice-aggregate-copy-in-2 c = search needs
@@ -37,10 +34,7 @@ add-t7 c = search needs
 returns-2 : tie.Need-returns-2
 returns-2 c =
     let ps = now (c .before .before .before .before .before .before .before .before .args .intervals) in
-    let e = odd ps (replicate 128 f0) (omega (arith, c .before .before .before .before .before .before .before .before .pre)) (c .before .before .before .if1 .left) in (
-      e .0,
-      ap (take (length ps + length ps)) (c .before .copy-in2 .ensures ∙ ap (λ (l : List Float). sets l (length ps) ps) (c .before .before .before .before .before .copy-in .ensures)) ∙ e .1,
-    )
+    odd ps _ (c .before .before .before .if1 .left) (c .before .copy-in2 .ensures ∙ ap (λ (l : List Float). sets l (length ps) ps) (c .before .before .before .before .before .copy-in .ensures))
 
 pub cycle-of-spec : {M : Type 1} → statement M
 cycle-of-spec =

@@ -18,14 +18,11 @@ new-requires c κs = search needs
 loop-holds : tie.Need-loop-holds Inv-loop μ-loop
 loop-holds c = search needs
 
-mul-call-at : tie.Need-mul-call-at Inv-loop μ-loop
-mul-call-at c = search needs
+mul-play : tie.Need-mul-play Inv-loop μ-loop
+mul-play c = search needs
 
-add-call-at : tie.Need-add-call-at Inv-loop μ-loop
-add-call-at c = search needs
-
-call-at-requires : tie.Need-call-at-requires Inv-loop μ-loop
-call-at-requires c κs = search needs
+add-play : tie.Need-add-play Inv-loop μ-loop
+add-play c = search needs
 
 play-requires : tie.Need-play-requires Inv-loop μ-loop
 play-requires c κs = search needs
@@ -65,9 +62,8 @@ build-spec =
     μ-loop
     new-requires
     loop-holds
-    mul-call-at
-    add-call-at
-    call-at-requires
+    mul-play
+    add-play
     play-requires
     expect-count-requires
     wide-requires

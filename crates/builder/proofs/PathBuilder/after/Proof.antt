@@ -10,17 +10,17 @@ more-requires c κs = λ e. c .pre e .0
 more-requires-2 : tie.Need-more-requires-2
 more-requires-2 c κs = λ e. c .before .pre e .1
 
-either-requires : tie.Need-either-requires
-either-requires c κs = search needs
+unless-requires : tie.Need-unless-requires
+unless-requires c κs = search needs
 
-either-requires-2 : tie.Need-either-requires-2
-either-requires-2 c κs = search needs
+unless-requires-2 : tie.Need-unless-requires-2
+unless-requires-2 c κs = search needs
 
-either-requires-3 : tie.Need-either-requires-3
-either-requires-3 c κs = search needs
+unless-requires-3 : tie.Need-unless-requires-3
+unless-requires-3 c κs = search needs
 
-either-requires-4 : tie.Need-either-requires-4
-either-requires-4 c κs = search needs
+unless-requires-4 : tie.Need-unless-requires-4
+unless-requires-4 c κs = search needs
 
 begun-requires : tie.Need-begun-requires
 begun-requires c κs = search needs
@@ -28,7 +28,7 @@ begun-requires c κs = search needs
 returns : tie.Need-returns
 returns c =
     let a = c .before .before .before .before .before .before .before .args in
-    rw (c .before .before .before .before .before .before .more .ensures, c .before .before .before .before .before .more2 .ensures, c .before .before .before .before .either .ensures, c .before .before .before .either2 .ensures, c .before .before .either3 .ensures, c .before .either4 .ensures, c .begun .ensures)
+    rw (c .before .before .before .before .before .before .more .ensures, c .before .before .before .before .before .more2 .ensures, c .before .before .before .before .unless .ensures, c .before .before .before .unless2 .ensures, c .before .before .unless3 .ensures, c .before .unless4 .ensures, c .begun .ensures)
     (unless-moved (a .n) (a .self) (a .v) (a .k) (a .start) (a .pen))
 
 pub after-spec : {M : Type 1} → statement M
@@ -37,9 +37,9 @@ after-spec =
     (tie.spec
     more-requires
     more-requires-2
-    either-requires
-    either-requires-2
-    either-requires-3
-    either-requires-4
+    unless-requires
+    unless-requires-2
+    unless-requires-3
+    unless-requires-4
     begun-requires
     returns)

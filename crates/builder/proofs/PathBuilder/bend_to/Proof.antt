@@ -1,62 +1,61 @@
--- the opening and the quads have room
+-- `builder::PathBuilder::bend_to` meets its contract. Assumes nothing.
 use denote.Ref.{now}
 use lib.ListN.{length}
-use Prim.Native.Nat.{_+_, _*_}
+use Prim.Native.Nat.{_+_, _≤_}
+use Rattle.halves.specs.Conic.{quads}
+use Rattle.halves.proofs.Laws.{quads-most}
+use Rattle.store.proofs.Refusals.{fits-fewer as room-less}
+use Rattle.drawing.specs.Lay.{lead}
 use Rattle.builder.specs.Room.{Room}
-use Rattle.builder.specs.Call.{lead}
-use Rattle.conic.proofs.Laws.{quads-most}
-use Rattle.conic.specs.Conic.{quads}
-use Rattle.builder.proofs.Lays.{bend-refused, bend-done}
-use Rattle.builder.proofs.Laws.{refusal-room, room-less}
-use mathlib.Core.Path.{_≡_, sym, _∙_}
+use Rattle.builder.proofs.Lays.{bend-asked, bend-done}
+use Rattle.builder.proofs.Laws.{refusal-room}
+use mathlib.Core.Path.{refl}
 use native.Mathlib.Omega.{arith}
 use borrow.Author.Needs.{needs}
 use Rattle.builder.proofs.PathBuilder.bend_to.Statement.{statement}
 use Rattle.builder.proofs.PathBuilder.bend_to.Tie as tie
 
-spare : (c : tie.After-conic-refused) → c .conic-refused .result ≡ 0 → let a = c .before .before .before .before .args in let n = length (quads (c .before .pen .result) (a .ctrl) (a .to) (a .weight)) in
-    Room (a .self) (length (now (a .verbs))) (length (now (a .points))) (lead (a .self .started) + n) (lead (a .self .started) + 2 * n)
-spare c e = refusal-room _ _ _ _ _ (sym (c .conic-refused .ensures) ∙ e)
+-- the opening and 64 quads have room, and there are no more
+spare : (c : tie.After-lead-of) → let a = c .before .before .before .before .args in Room (a .self) (length (now (a .verbs))) (length (now (a .points))) (lead (a .self .started) + 64) (lead (a .self .started) + 128)
+spare c = refusal-room _ _ _ _ _ (c .before .before .before .before .pre)
+
+few : (c : tie.After-lead-of) → let a = c .before .before .before .before .args in length (quads (c .before .pen .result) (a .ctrl) (a .to) (a .weight)) ≤ 64
+few c = let a = c .before .before .before .before .args in quads-most (c .before .pen .result) (a .ctrl) (a .to) (a .weight)
 
 pen-requires : tie.Need-pen-requires
 pen-requires c κs = search needs
-
-conic-refused-requires : tie.Need-conic-refused-requires
-conic-refused-requires c κs = search needs
-
-unmoved-requires : tie.Need-unmoved-requires
-unmoved-requires c κs = search needs
-
-returns : tie.Need-returns
-returns c = bend-refused _ _ _ _ _ _ _ _ (c .before .before .conic-refused .ensures) (c .before .before .before .pen .ensures) (c .before .if1 .taken) (c .unmoved .ensures)
 
 lead-of-requires : tie.Need-lead-of-requires
 lead-of-requires c κs = search needs
 
 add-v : tie.Need-add-v
-add-v c = let r = spare (c .before .before .before) (c .before .before .if1 .left) in let l = c .before .lead-of .ensures in omega (arith, l, r .few-verbs)
+add-v c = omega (arith, c .before .lead-of .ensures, spare (c .before) .few-verbs)
 
 add-f : tie.Need-add-f
-add-f c = let r = spare (c .before .before .before .before) (c .before .before .before .if1 .left) in let l = c .before .before .lead-of .ensures in omega (arith, l, r .few-points)
+add-f c = omega (arith, c .before .before .lead-of .ensures, spare (c .before .before) .few-points)
 
 mul-f : tie.Need-mul-f
-mul-f c = let r = spare (c .before .before .before .before) (c .before .before .before .if1 .left) in let l = c .before .before .lead-of .ensures in omega (arith, l, r .few-points)
+mul-f c = omega (arith, c .before .before .lead-of .ensures, spare (c .before .before) .few-points)
 
 lay-opening-requires : tie.Need-lay-opening-requires
-lay-opening-requires c κs = λ e. let r = spare (c .before .before .before .before .before .before) (c .before .before .before .before .before .if1 .left) in room-less (omega arith) (omega arith) r
+lay-opening-requires c κs = λ e. room-less (omega arith) (omega arith) (spare (c .before .before .before .before))
 
 push-conic-requires : tie.Need-push-conic-requires
-push-conic-requires c κs = let r = spare (c .before .before .before .before .before .before .before .before .before .before .before .before .before) (c .before .before .before .before .before .before .before .before .before .before .before .before .if1 .left) in let l = c .before .before .before .before .before .before .before .before .before .before .before .lead-of .ensures in let k = c .before .before .before .before .before .before .lay-opening .kept in (omega (arith, l, r .verbs, k .1 .1 .0), omega (arith, l, r .points, k .1 .1 .1 .0))
+push-conic-requires c κs =
+    let r = spare (c .before .before .before .before .before .before .before .before .before .before .before) in
+    let l = c .before .before .before .before .before .before .before .before .before .before .before .lead-of .ensures in
+    let k = c .before .before .before .before .before .before .lay-opening .kept in
+    (omega (arith, l, r .verbs, k .1 .1 .0), omega (arith, l, r .points, k .1 .1 .1 .0))
 
 mul-drawn : tie.Need-mul-drawn
-mul-drawn c = let a = c .before .before .before .before .before .before .before .before .before .before .before .before .before .before .before .before .before .before .before .before .before .before .args in omega (arith, c .before .before .before .before .push-conic .ensures .number, quads-most (c .before .before .before .before .before .before .before .before .before .before .before .before .before .before .before .before .before .before .before .pen .result) (a .ctrl) (a .to) (a .weight))
+mul-drawn c = omega (arith, c .before .before .before .before .push-conic .ensures .number, few (c .before .before .before .before .before .before .before .before .before .before .before .before .before .before .before .before))
 
 drawn-requires : tie.Need-drawn-requires
 drawn-requires c κs =
-    let a = c .before .before .before .before .before .before .before .before .before .before .before .before .before .before .before .before .before .before .before .before .before .before .args in
-    let m = quads-most (c .before .before .before .before .before .before .before .before .before .before .before .before .before .before .before .before .before .before .before .pen .result) (a .ctrl) (a .to) (a .weight) in
+    let m = few (c .before .before .before .before .before .before .before .before .before .before .before .before .before .before .before .before) in
     let q = c .before .before .before .before .push-conic .ensures .number in
-    let r = spare (c .before .before .before .before .before .before .before .before .before .before .before .before .before .before .before .before .before .before) (c .before .before .before .before .before .before .before .before .before .before .before .before .before .before .before .before .before .if1 .left) in (omega (arith, q, m), omega (arith, q, m), λ e. (omega (arith, q, r .few-verbs), omega (arith, q, r .few-points)))
+    let r = spare (c .before .before .before .before .before .before .before .before .before .before .before .before .before .before .before .before) in
+    (omega (arith, q, m), omega (arith, q, m), λ e. (omega (arith, q, m, r .few-verbs), omega (arith, q, m, r .few-points)))
 
 same-length : tie.Need-same-length
 same-length c = search needs
@@ -64,17 +63,17 @@ same-length c = search needs
 same-length-2 : tie.Need-same-length-2
 same-length-2 c = search needs
 
-returns-2 : tie.Need-returns-2
-returns-2 c = bend-done _ _ _ _ _ _ _ _ (c .before .before .before .before .before .before .before .before .before .before .before .before .before .before .before .before .before .before .before .conic-refused .ensures) _ _ (c .before .before .before .before .before .before .before .before .before .before .before .before .before .before .before .before .before .before .before .before .pen .ensures) (c .before .before .before .before .before .before .before .before .before .before .before .before .before .before .before .before .before .before .if1 .left) (c .before .before .before .before .before .before .before .before .before .before .before .before .before .before .before .before .before .lead-of .ensures) (c .before .before .before .before .before .before .before .before .before .before .before .before .lay-opening .ensures) (c .before .before .before .before .before .push-conic .ensures) (c .drawn .ensures)
+returns : tie.Need-returns
+returns c =
+    let a = c .before .before .before .before .before .before .before .before .before .before .before .before .before .before .before .before .before .before .before .before .before .args in
+    bend-done (a .self) (now (a .verbs)) (now (a .points)) (c .before .before .before .before .before .before .before .before .before .before .before .before .before .before .before .before .before .before .pen .result) (a .ctrl) (a .to) (a .weight) 0 (bend-asked _ _ _ _ _ _ _ (c .before .before .before .before .before .before .before .before .before .before .before .before .before .before .before .before .before .before .before .before .before .pre)) _ _
+    (c .before .before .before .before .before .before .before .before .before .before .before .before .before .before .before .before .before .before .pen .ensures) refl (c .before .before .before .before .before .before .before .before .before .before .before .before .before .before .before .before .before .lead-of .ensures) (c .before .before .before .before .before .before .before .before .before .before .before .before .lay-opening .ensures) (c .before .before .before .before .before .push-conic .ensures) (c .drawn .ensures)
 
 pub bend-to-spec : {M : Type 1} → statement M
 bend-to-spec =
     tie.close
     (tie.spec
     pen-requires
-    conic-refused-requires
-    unmoved-requires
-    returns
     lead-of-requires
     add-v
     add-f
@@ -85,4 +84,4 @@ bend-to-spec =
     drawn-requires
     same-length
     same-length-2
-    returns-2)
+    returns)

@@ -6,7 +6,8 @@ use Rattle.builder.specs.Room.{repliedBy}
 use Rattle.builder.specs.Call.{lays, closing}
 use Rattle.builder.specs.Build.{called, quadsLaid, steps, moved}
 use Rattle.builder.proofs.Lays.{replied, reply-as, begun-nil, pushed-as}
-use Rattle.builder.proofs.Laws.{refusal-room, unless-same, not-true, not-false}
+use Rattle.store.proofs.Laws.{unless-same}
+use Rattle.builder.proofs.Laws.{refusal-room, not-true, not-false}
 use mathlib.Core.Path.{sym, ap, _∙_}
 use native.Mathlib.Omega.{arith}
 use borrow.Author.Needs.{needs}

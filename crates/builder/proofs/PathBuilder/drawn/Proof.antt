@@ -1,5 +1,6 @@
 -- `builder::PathBuilder::drawn` meets its contract. Assumes nothing.
-use Rattle.builder.proofs.Lays.{lead-few, drawn-as}
+use Rattle.drawing.proofs.Laws.{lead-few}
+use Rattle.builder.proofs.Lays.{drawn-as}
 use mathlib.Core.Path.{_∙_}
 use native.Mathlib.Omega.{arith}
 use borrow.Author.Needs.{needs}

@@ -3,8 +3,10 @@ use Rattle.path.specs.declared.Segment.the-variants.{Move}
 use mathlib.Core.List.{[], _∷_}
 use Rattle.builder.specs.Call.{lays}
 use Rattle.builder.specs.Build.{called, quadsLaid, steps}
-use Rattle.builder.proofs.Lays.{replied, begun-one}
-use Rattle.builder.proofs.Laws.{refusal-room, unless-same}
+use Rattle.builder.proofs.Lays.{replied}
+use Rattle.store.proofs.Laws.{unless-same}
+use Rattle.store.proofs.Stored.{stored-one}
+use Rattle.builder.proofs.Laws.{refusal-room}
 use mathlib.Core.Path.{sym, _∙_}
 use native.Mathlib.Omega.{arith}
 use borrow.Author.Needs.{needs}
@@ -32,7 +34,7 @@ returns c =
     let p = c .before .before .before .before .before .put-one .ensures in
     let n = c .before .before .before .before .before .before .before .before .refused .result in
     let b = c .before .before .before .before .before .before .before .before .before .before .before .args .self in
-    replied 0 b _ _ (Move _ ∷ []) n (c .before .before .before .before .before .before .before .before .refused .ensures) (c .settle .ensures) (unless-same n 0) (begun-one n b _ _ _ (p .0) (p .1))
+    replied 0 b _ _ (Move _ ∷ []) n (c .before .before .before .before .before .before .before .before .refused .ensures) (c .settle .ensures) (unless-same n 0) (stored-one n _ _ _ _ _ (p .0) (p .1))
 
 pub move-to-spec : {M : Type 1} → statement M
 move-to-spec =

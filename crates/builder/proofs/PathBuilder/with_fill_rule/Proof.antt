@@ -1,11 +1,11 @@
 -- `builder::PathBuilder::with_fill_rule` meets its contract. Assumes nothing.
-use Rattle.builder.specs.Build.{told}
+use Rattle.builder.specs.Build.{setBy}
 use mathlib.Core.Path.{refl}
 use Rattle.builder.proofs.PathBuilder.with_fill_rule.Statement.{statement}
 use Rattle.builder.proofs.PathBuilder.with_fill_rule.Tie as tie
 
 returns : tie.Need-returns
-unfolding told
+unfolding setBy
 returns c = refl
 
 pub with-fill-rule-spec : {M : Type 1} → statement M

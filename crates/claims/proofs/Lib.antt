@@ -1,6 +1,0 @@
-pub mod Tables
-pub mod Places
-pub mod Turns
-pub mod Runs
-pub mod Demand
-pub mod Examples

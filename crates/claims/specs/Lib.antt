@@ -1,4 +1,0 @@
-pub mod Calls
-pub mod Replay
-pub mod Run
-pub mod Demand

@@ -1,0 +1,2 @@
+pub mod Conic
+pub mod Halves

@@ -1,0 +1,12 @@
+pub mod Examples
+pub mod Points
+pub mod Good
+pub mod Lengths
+pub mod Counts
+pub mod Ends
+pub mod Subpaths
+pub mod Pass
+pub mod Polylines
+pub mod Laws
+pub mod Kept
+pub mod Source

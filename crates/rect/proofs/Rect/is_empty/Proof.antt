@@ -1,0 +1,12 @@
+-- `Rect::is_empty` meets its contract. Assumes nothing.
+use Rattle.rect.proofs.Rect.is_empty.Statement.{statement}
+use Rattle.rect.proofs.Rect.is_empty.Tie as tie
+
+returns : tie.Need-returns
+returns c = cc
+
+returns-2 : tie.Need-returns-2
+returns-2 c = cc
+
+pub is-empty-spec : {M : Type 1} → statement M
+is-empty-spec = tie.close (tie.spec returns returns-2)

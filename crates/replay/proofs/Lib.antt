@@ -1,0 +1,5 @@
+pub mod Tables
+pub mod Places
+pub mod Turns
+pub mod Runs
+pub mod Encoded
