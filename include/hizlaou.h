@@ -6,6 +6,11 @@
  * Every call ends on every input, NaN and infinities included, keeps no memory and no state of its own, and may be called from any thread.
  * What each call answers, and what it leaves in each buffer, is proved against one definition (crates/capi/src/lib.rt names it).
  *
+ * Floating-point environment. Answers are promised where numbers are rounded to nearest, ties to even, subnormals are kept (neither flush-to-zero nor
+ * denormals-are-zero is set) and no exception traps, as a program finds it at its start. A thread that has changed this, as graphics threads do, sets it
+ * back for the call. Under any other rounding, or with subnormals flushed, an answer may be wrong; but no call writes outside the buffers that it is
+ * lent, and each ends (tested: tests/c/environment.c).
+ *
  * Buffers. A buffer goes as a pointer and a length. The length is in elements: bytes for verbs and marks, floats (not points) for coordinates. With
  * length 0 the pointer may be NULL. A buffer that is written to must not overlap another
  * buffer of the same call. Only what a call is said to write changes.

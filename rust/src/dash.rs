@@ -1,6 +1,6 @@
 //! Dashing: a path cut into the drawn pieces of a pattern.
 use crate::ffi;
-use crate::flatten::{Polylines, Size};
+use crate::flatten::{Polylines, Room, Size};
 use crate::path::{floats_mut, FillRule, Path, Vec2, MAX_VERBS};
 use crate::refusal::Refusal;
 
@@ -102,12 +102,48 @@ impl Dashed {
 pub fn dash_path(path: &Path, dash: &Dash, tolerance: f32) -> Result<Dashed, Refusal> {
     let size = Size::of(path, tolerance);
     let mut scratch = size.room();
-    // Every dash verb uses one point, so the limit on verbs binds first. Memory that isn't written to isn't taken up.
-    let (mut verbs, mut points) = (vec![0u8; MAX_VERBS], vec![Vec2::ZERO; MAX_VERBS]);
+    // Room for all that the limit allows takes longer to clear than most paths take to cut, so it is lent only where less does not do.
+    let few = MAX_VERBS.min(4 * scratch.points.len() + 256);
+    let mut runs = Runs::room(few);
+    let mut answer = cut(path, dash, tolerance, &mut scratch, &mut runs);
+    if answer.refused == Refusal::OUTPUT_FULL.number() && few < MAX_VERBS {
+        runs = Runs::room(MAX_VERBS);
+        answer = cut(path, dash, tolerance, &mut scratch, &mut runs);
+    }
+    Refusal::check(answer.refused)?;
+    if answer.kind == 0 {
+        return Ok(Dashed::Whole);
+    }
+    let polylines = scratch.filled(size.totals(answer.scratch, answer.polylines, answer.held));
+    Ok(Dashed::Cut { path: runs.filled(answer), polylines })
+}
+
+/// What is lent for the drawn runs.
+struct Runs {
+    verbs: Vec<u8>,
+    points: Vec<Vec2>,
+}
+
+impl Runs {
+    /// Room for so many verbs. Each uses one point, so the limit on verbs binds before that on points.
+    fn room(verbs: usize) -> Runs {
+        Runs { verbs: vec![0; verbs], points: vec![Vec2::ZERO; verbs] }
+    }
+
+    /// The filled part as a path.
+    fn filled(mut self, answer: ffi::Dashed) -> Path {
+        self.points.truncate(answer.points);
+        self.points.shrink_to_fit();
+        Path::of_dash(&self.verbs[..answer.verbs], self.points, FillRule::of(answer.fill_rule))
+    }
+}
+
+/// The library's call, with what is lent for the polylines and for the runs.
+fn cut(path: &Path, dash: &Dash, tolerance: f32, scratch: &mut Room, runs: &mut Runs) -> ffi::Dashed {
     let (s, s_len) = floats_mut(&mut scratch.points);
-    let (d, d_len) = floats_mut(&mut points);
+    let (d, d_len) = floats_mut(&mut runs.points);
     // SAFETY: path and pattern are only read; the five outputs are lent for the call with their own lengths.
-    let r = path.ask(|v, l, p, m| unsafe {
+    path.ask(|v, l, p, m| unsafe {
         ffi::hz_dash_path(
             v,
             l,
@@ -124,25 +160,12 @@ pub fn dash_path(path: &Path, dash: &Dash, tolerance: f32) -> Result<Dashed, Ref
             scratch.ends.len(),
             scratch.marks.as_mut_ptr(),
             scratch.marks.len(),
-            verbs.as_mut_ptr(),
-            verbs.len(),
+            runs.verbs.as_mut_ptr(),
+            runs.verbs.len(),
             d,
             d_len,
         )
-    });
-    Refusal::check(r.refused)?;
-    if r.kind == 0 {
-        return Ok(Dashed::Whole);
-    }
-    let polylines = scratch.filled(size.totals(r.scratch, r.polylines, r.held));
-    Ok(Dashed::Cut { path: runs(&verbs, points, r), polylines })
-}
-
-/// The filled part of the dash buffers as a path.
-fn runs(verbs: &[u8], mut points: Vec<Vec2>, answer: ffi::Dashed) -> Path {
-    points.truncate(answer.points);
-    points.shrink_to_fit();
-    Path::of_dash(&verbs[..answer.verbs], points, FillRule::of(answer.fill_rule))
+    })
 }
 
 /// The intervals of a line style, 0 to 8; style 0 has none. Refused with 9 over 8.

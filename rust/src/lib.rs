@@ -3,6 +3,10 @@
 //! Every answer is the library's: each call ends on every input, NaN and infinities included, and equals its definition bit for bit. Where a call
 //! can be refused it gives a [`Refusal`] with the number of the refusal, and has changed nothing.
 //!
+//! Answers are promised where numbers are rounded to nearest, ties to even, subnormals are kept (neither flush-to-zero nor denormals-are-zero is set) and
+//! no floating-point exception traps, as Rust itself takes for granted. C code in the same thread may have changed that: set it back before a call. Under
+//! any other rounding, or with subnormals flushed, an answer may be wrong; but each call ends, and the library writes outside no buffer.
+//!
 //! It links `target/staticlib/libcapi.a`, which `rt staticlib capi` makes.
 //!
 //! ```

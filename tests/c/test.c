@@ -1,28 +1,8 @@
 /* The C interface's own test: each call, with buffers that are ample, exactly full, one short, empty and odd, and with states and paths of any
  * kind. Built with -Wall -Werror; ends with 0 where all holds. */
-#include "hizlaou.h"
+#include "check.h"
 
 #include <math.h>
-#include <stdio.h>
-#include <string.h>
-
-static int failed, passed;
-
-#define CHECK(what) check((what), #what, __LINE__)
-
-static void check(int holds, const char *what, int line) {
-    if (holds) {
-        passed++;
-    } else {
-        failed++;
-        printf("test.c:%d: %s\n", line, what);
-    }
-}
-
-static HzVec2 at(float x, float y) {
-    HzVec2 p = {x, y};
-    return p;
-}
 
 static int same(HzVec2 a, HzVec2 b) {
     return memcmp(&a, &b, sizeof a) == 0;
@@ -30,12 +10,6 @@ static int same(HzVec2 a, HzVec2 b) {
 
 static int counted(HzSegmentCount c, uint32_t count, bool held) {
     return c.count == count && c.held == held;
-}
-
-/* Field by field, by bits: padding does not count. */
-static int same_state(const HzBuilder *a, const HzBuilder *b) {
-    return a->verbs == b->verbs && a->points == b->points && memcmp(&a->start_x, &b->start_x, 9 * sizeof(float)) == 0 &&
-           a->fill_rule == b->fill_rule && a->noted == b->noted && a->started == b->started;
 }
 
 enum { VERBS = 80, FLOATS = 300 };
@@ -310,12 +284,6 @@ typedef struct {
     float flat[LENT_FLOATS], drawn[LENT_FLOATS];
     uint8_t marks[LENT_ENDS], laid[LENT_VERBS];
 } Written;
-
-static int untouched(const void *from, size_t bytes) {
-    const uint8_t *b = from;
-    while (bytes > 0 && b[bytes - 1] == 0xa5) bytes--;
-    return bytes == 0;
-}
 
 /* Whether the marks are these, written as digits, and the bytes past the last as they were. */
 static int marked(const Written *w, const char *marks) {
