@@ -1,6 +1,5 @@
 -- Laws that every call's proof cites.
 --     refusal-room               a call that is not refused has room
---     refusal-less               a call that lays less is not refused where one that lays more is not
 -- Assumes nothing.
 use mathlib.Core.Path.{_≡_, refl, sym, _∙_}
 use mathlib.Core.Bool.{Bool, true, false, not}
@@ -13,7 +12,7 @@ use Rattle.vec2.specs.Vec2.{origin}
 use Rattle.rect.specs.declared.Rect.{Rect}
 use Rattle.builder.specs.declared.Call.the-variants.{AsRoundedRect}
 use Rattle.store.specs.Store.{unless}
-use Rattle.store.proofs.Refusals.{refusal-fits, refusal-fewer}
+use Rattle.store.proofs.Refusals.{refusal-fits}
 use Rattle.builder.specs.declared.PathBuilder.{PathBuilder}
 use Rattle.builder.specs.Build.{moved, notedAs, finiteBox, setBy, refusal}
 use Rattle.builder.specs.Room.{Room}
@@ -70,10 +69,3 @@ module _ (b : PathBuilder) (nv nf v k : ℕ) where
   pub refusal-room : refusal b nv nf v k ≡ 0 → Room b nv nf v k
   unfolding refusal
   refusal-room h = refusal-fits (b .verbs) (b .points) (b .started) nv nf v k h
-
-  pub refusal-less : (v' k' : ℕ) → v' ≤ v → k' ≤ k → refusal b nv nf v k ≡ 0 → 0 ≡ refusal b nv nf v' k'
-  unfolding refusal
-  refusal-less v' k' hv hk h = refusal-fewer (b .verbs) (b .points) (b .started) nv nf v k v' k' hv hk h
-
-pub refusal-as : (b : PathBuilder) (nv nf : ℕ) {v k v' k' : ℕ} → v ≡ v' → k ≡ k' → refusal b nv nf v k ≡ refusal b nv nf v' k'
-refusal-as b nv nf e d = rw (e, d)

@@ -2,12 +2,12 @@
 --     opened                    the state behind what a drawn call lays
 --     replied, laid-done        the whole outcome of a call; of a drawn one
 --     line-called …             of a line, a quad, a cubic
---     bend-refused, bend-done   that of a conic that is a curve
+--     conic-line, conic-called  of a conic that is a line, or quads
 -- Assumes nothing.
 use mathlib.Core.Path.{_≡_, refl, sym, ap, _∙_}
 use mathlib.Core.Bool.{Bool, true, false}
 use mathlib.Core.List.{List, [], _∷_, _++_}
-use Prim.Native.Nat.{ℕ, _+_, _*_}
+use Prim.Native.Nat.{ℕ, zero, suc, _+_, _*_}
 use native.Mathlib.Nat.{zero-add, add-assoc}
 use native.Mathlib.Omega.{arith}
 use lib.ListN.{length, length-append}
@@ -20,20 +20,19 @@ use Rattle.path.specs.declared.Segment.{Segment}
 use Rattle.path.specs.declared.Segment.the-variants.{Move, Line, Quad, Cubic}
 use Rattle.path.specs.Segment.{bytesOf, allPoints}
 use Rattle.path.proofs.Encoded.{allPoints-append}
-use Rattle.halves.specs.Conic.{mostQuads, straight, quads}
-use Rattle.conic.specs.Lay.{Bent}
-use Rattle.halves.proofs.Laws.{Quads, one, more, quads-quads, quads-points, quads-most}
+use Rattle.halves.specs.Conic.{straight, quads}
+use Rattle.halves.proofs.Laws.{Quads, one, more, quads-quads, quads-points}
 use Rattle.store.specs.Store.{unless}
 use Rattle.store.proofs.Laws.{unless-not, unless-same}
-use Rattle.store.proofs.Stored.{stored-nil, stored-more}
+use Rattle.store.proofs.Stored.{stored-nil}
 use Rattle.drawing.specs.Lay.{opening, lead, Drawn}
 use Rattle.drawing.proofs.Laws.{lead-length, lead-points}
+use Rattle.bending.specs.Bend.{Curved}
 use Rattle.builder.specs.declared.Call.the-variants.{LineTo, QuadTo, ConicTo, CubicTo}
 use Rattle.builder.specs.declared.PathBuilder.{PathBuilder}
 use Rattle.builder.specs.declared.Reply.{Reply}
 use Rattle.builder.specs.Call.{from, lays}
 use Rattle.builder.specs.Build.{startOf, moved, step, steps, refusal, Outcome, outcome, pushedBy, pushed, quadsLaid, called, penOf}
-use Rattle.builder.proofs.Laws.{refusal-as, refusal-less}
 use Rattle.builder.specs.Room.{Begun, drawnBy, repliedBy}
 
 -- ---- the buffers
@@ -96,12 +95,6 @@ module _ (q : ℕ) (b : PathBuilder) (vs : List ℕ) (fs : List Float) (ss : Lis
       let h : outcome (repliedBy n (unless n 0 q) b (steps b ss)) (unless n vs (sets vs (b .verbs) (bytesOf ss))) (unless n fs (sets fs (2 * b .points) (flat (allPoints ss)))) ≡ pushedBy n q b vs fs ss = refl in
       rw (er, eq, g .bytes, g .floats) h ∙ ap (λ (k : ℕ). pushedBy k q b vs fs ss) e
 
-  -- a refused call leaves everything as it was
-  pub unchanged : (n : ℕ) → (n ≡ 0 → ⊥) → n ≡ refusal b (length vs) (length fs) (length ss) (length (allPoints ss)) →
-      outcome (record { state = b; quads = 0; refused = n }) vs fs ≡ pushed q b vs fs ss
-  unchanged n h e =
-      replied n e (reply-as n 0 b (steps b ss) (unless-not n b (steps b ss) h)) (unless-not n 0 q h) (record { bytes = unless-not n vs _ h; floats = unless-not n fs _ h })
-
 -- the same list by another name
 pub pushed-as : (q : ℕ) (b : PathBuilder) (vs : List ℕ) (fs : List Float) {o : Outcome} {ss ts : List Segment} → ss ≡ ts → o ≡ pushed q b vs fs ss → o ≡ pushed q b vs fs ts
 pushed-as q b vs fs e h = h ∙ ap (λ (l : List Segment). pushed q b vs fs l) e
@@ -125,16 +118,6 @@ module _ (q : ℕ) (b : PathBuilder) (vs : List ℕ) (fs : List Float) (ts : Lis
       eq
       g
 
-  pub drawn-done : (n : ℕ) (v k l : ℕ) (p : Vec2) {r : Reply} {q' : ℕ} {vs' vs'' : List ℕ} {fs' fs'' : List Float} →
-      v ≡ length ts → k ≡ length (allPoints ts) → Draws ts v k p → l ≡ lead (b .started) →
-      n ≡ refusal b (length vs) (length fs) (lead (b .started) + v) (lead (b .started) + k) → Begun n b vs fs (opening (b .started)) vs' fs' →
-      vs'' ≡ unless n vs' (sets vs' (b .verbs + l) (bytesOf ts)) → fs'' ≡ unless n fs' (sets fs' (2 * (b .points + l)) (flat (allPoints ts))) →
-      r ≡ repliedBy n q' b (drawnBy b v k p) → q' ≡ unless n 0 q →
-      outcome r vs'' fs'' ≡ pushed q b vs fs (opening (b .started) ++ ts)
-  drawn-done n v k l p hv hk d hl e g ev ef er eq =
-      laid-done n v k p hv hk d e
-      (stored-more n (b .verbs) (b .points) vs fs (opening (b .started)) ts l (hl ∙ lead-length (b .started)) (hl ∙ lead-points (b .started)) g ev ef) er eq
-
 -- a line, a quad, a cubic, as they were laid
 
 module _ (b : PathBuilder) (vs : List ℕ) (fs : List Float) (n : ℕ) {r : Reply} {vs' : List ℕ} {fs' : List Float} where
@@ -152,35 +135,27 @@ module _ (b : PathBuilder) (vs : List ℕ) (fs : List Float) (n : ℕ) {r : Repl
 
 -- ---- conics
 
--- no conic is refused where any has room
-pub bend-asked : (b : PathBuilder) (nv nf : ℕ) (a c t : Vec2) (w : Float) → refusal b nv nf (lead (b .started) + mostQuads) (lead (b .started) + 2 * mostQuads) ≡ 0
-    → 0 ≡ refusal b nv nf (lead (b .started) + length (quads a c t w)) (lead (b .started) + 2 * length (quads a c t w))
-bend-asked b nv nf a c t w h = let m = quads-most a c t w in refusal-less b nv nf _ _ _ _ (omega (arith, m)) (omega (arith, m)) h
-
-module _ (b : PathBuilder) (vs : List ℕ) (fs : List Float) (a c t : Vec2) (w : Float) (n : ℕ)
-    (asked : n ≡ refusal b (length vs) (length fs) (lead (b .started) + length (quads a c t w)) (lead (b .started) + 2 * length (quads a c t w))) where
-  pub bend-refused : {a' : Vec2} {r : Reply} → a ≡ a' → (n ≡ 0 → ⊥) → r ≡ record { state = b; quads = 0; refused = n } → outcome r vs fs ≡ pushed (length (quads a' c t w)) b vs fs (opening (b .started) ++ quads a' c t w)
-  bend-refused e h er =
-      rw (← e, er)
-      (unchanged (length (quads a c t w)) b vs fs (opening (b .started) ++ quads a c t w) n h
-      (asked ∙ refusal-as b (length vs) (length fs) (sym (count-all 0 b vs fs (quads a c t w))) (omega (arith, points-all 0 b vs fs (quads a c t w), quads-points a c t w))))
-
-  pub bend-done : {a' : Vec2} (l q : ℕ) {r : Reply} {vs' vs'' : List ℕ} {fs' fs'' : List Float} → a ≡ a' → n ≡ 0 → l ≡ lead (b .started) →
-      Begun 0 b vs fs (opening (b .started)) vs' fs' → Bent (quads a c t w) q vs' (b .verbs + l) vs'' fs' (2 * (b .points + l)) fs'' →
-      r ≡ repliedBy 0 q b (drawnBy b q (2 * q) t) →
-      outcome r vs'' fs'' ≡ pushed (length (quads a' c t w)) b vs fs (opening (b .started) ++ quads a' c t w)
-  bend-done l q e z hl g p er =
-      rw (← e)
-      (drawn-done (length (quads a c t w)) b vs fs (quads a c t w) 0 (length (quads a c t w)) (2 * length (quads a c t w)) l t
-      refl (sym (quads-points a c t w)) (draws-quads t (quads a c t w) (quads-quads a c t w)) hl (sym z ∙ asked) g (p .verbs) (p .floats)
-      (er ∙ ap (λ (m : ℕ). repliedBy 0 m b (drawnBy b m (2 * m) t)) (p .number)) refl)
+-- where the number refuses, no count shows
+quads-as : (n q m : ℕ) (b : PathBuilder) (t : Vec2) → q ≡ unless n 0 m → repliedBy n q b (drawnBy b q (2 * q) t) ≡ repliedBy n q b (drawnBy b m (2 * m) t)
+quads-as zero q m b t e = ap (λ (k : ℕ). repliedBy 0 q b (drawnBy b k (2 * k) t)) e
+quads-as (suc n) q m b t e = refl
 
 module _ (b : PathBuilder) (vs : List ℕ) (fs : List Float) (c t : Vec2) (w : Float) where
   pub conic-line : straight c t w ≡ true → called b vs fs (LineTo t) ≡ called b vs fs (ConicTo c t w)
   unfolding called lays quadsLaid
   conic-line e = rw e
 
-  pub conic-bend : straight c t w ≡ false →
+  conic-bend : straight c t w ≡ false →
       pushed (length (quads (from (b .started) (penOf b)) c t w)) b vs fs (opening (b .started) ++ quads (from (b .started) (penOf b)) c t w) ≡ called b vs fs (ConicTo c t w)
   unfolding called lays quadsLaid
   conic-bend e = rw e
+
+  -- as its quads were laid
+  pub conic-called : (n q : ℕ) (a : Vec2) {r : Reply} {vs' : List ℕ} {fs' : List Float} → straight c t w ≡ false → a ≡ from (b .started) (penOf b) →
+      Curved n q (b .started) (b .verbs) (b .points) vs fs a c t w vs' fs' → r ≡ repliedBy n q b (drawnBy b q (2 * q) t) → outcome r vs' fs' ≡ called b vs fs (ConicTo c t w)
+  unfolding refusal
+  conic-called n q a s e l er =
+      laid-done (length (quads a c t w)) b vs fs (quads a c t w) n (length (quads a c t w)) (2 * length (quads a c t w)) t
+      refl (sym (quads-points a c t w)) (draws-quads t (quads a c t w) (quads-quads a c t w)) (l .drawn .number ∙ rw (quads-points a c t w)) (l .drawn .stored) (er ∙ quads-as n q (length (quads a c t w)) b t (l .counted)) (l .counted)
+      ∙ ap (λ (x : Vec2). pushed (length (quads x c t w)) b vs fs (opening (b .started) ++ quads x c t w)) e
+      ∙ conic-bend s

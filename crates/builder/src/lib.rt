@@ -1,17 +1,15 @@
 // The path builder: a state by value, verbs and points in two lent buffers.
 ghost use mathlib.Core.Path.{_≡_};
-ghost use mathlib.Core.Bool.{true};
-ghost use mathlib.Core.List.{_++_};
 ghost use Prim.Native.Nat.{_+_, _*_, _≤_};
-ghost use lib.ListN.{length};
 ghost use Rattle.path.specs.Check.{maxPoints};
-ghost use Rattle.halves.specs.Conic.{mostQuads, quads};
+ghost use Rattle.halves.specs.Conic.{mostQuads};
 ghost use Rattle.store.specs.Store.{unless};
-ghost use Rattle.drawing.specs.Lay.{opening, lead};
+ghost use Rattle.drawing.specs.Lay.{lead};
 ghost use Rattle.builder.specs.declared.Call.the-variants.{MoveTo, LineTo, QuadTo, ConicTo, CubicTo, Close, WithFillRule, AsRoundedRect};
 ghost use Rattle.builder.specs.Call.{from};
-ghost use Rattle.builder.specs.Build.{fresh, startOf, penOf, moved, finiteBox, notedAs, setBy, currentOf, noteOf, refusal, outcome, pushed, called};
-ghost use Rattle.builder.specs.Room.{Room, Begun, drawnBy, repliedBy};
+ghost use Rattle.builder.specs.Build.{fresh, startOf, penOf, moved, finiteBox, notedAs, setBy, currentOf, noteOf, refusal, outcome, called};
+ghost use Rattle.builder.specs.Room.{drawnBy, repliedBy};
+use bending::lay_conic;
 use drawing::lay_cubic;
 use drawing::lay_line;
 use drawing::lay_quad;
@@ -188,14 +186,6 @@ impl PathBuilder {
 
     // ---- what goes before a drawn verb, and the state behind it
 
-    // Lays the move to (0, 0) on an empty builder.
-    fn lay_opening(self, n: u8, verbs: &mut [u8], points: &mut [f32])
-        requires { ⌜ (n ≡ 0 → Room self (length (now verbs)) (length (now points)) (lead (self .started)) (lead (self .started))) ⌝ }
-        ensures { λ _. ⌜ Begun n self (now (verbs .entry)) (now (points .entry)) (opening (self .started)) (now (verbs .exit)) (now (points .exit)) ⌝ }
-    {
-        drawing::lay_opening(n, self.started, verbs, self.verbs, points, self.points);
-    }
-
     // Where a drawn verb begins.
     fn pen(self) -> Vec2
         ensures { λ r. ⌜ r ≡ from (self .started) (penOf self) ⌝ }
@@ -336,62 +326,6 @@ impl PathBuilder {
         self.settle(n, 1, 0, 0, start, start)
     }
 
-    // Whether any conic has room: all 64 quads, behind what goes before them.
-    fn takes_any_conic(self, verbs: usize, floats: usize) -> bool
-        ensures { λ r. ⌜ (r ≡ true → refusal self verbs floats (lead (self .started) + mostQuads) (lead (self .started) + 2 * mostQuads) ≡ 0) ⌝ }
-    {
-        let l = lead_of(self.started);
-        let n = self.refused(verbs, floats, l + conic::MAX_QUADS, l + conic::MAX_POINTS);
-        n == 0
-    }
-
-    // A conic that is a curve, where any has room: its quads are laid straight into the lent buffers, however many they are.
-    fn bend_to(
-        self,
-        verbs: &mut [u8],
-        points: &mut [f32],
-        ctrl: Vec2,
-        to: Vec2,
-        weight: f32,
-    ) -> Reply
-        requires { ⌜ refusal self (length (now verbs)) (length (now points)) (lead (self .started) + mostQuads) (lead (self .started) + 2 * mostQuads) ≡ 0 ⌝ }
-        ensures { λ r. ⌜ outcome r (now (verbs .exit)) (now (points .exit)) ≡ pushed (length (quads (from (self .started) (penOf self)) ctrl to weight)) self (now (verbs .entry)) (now (points .entry)) (opening (self .started) ++ quads (from (self .started) (penOf self)) ctrl to weight) ⌝ }
-    {
-        let pen = self.pen();
-        let l = lead_of(self.started);
-        let v = self.verbs + l;
-        let f = 2 * (self.points + l);
-        self.lay_opening(0, verbs, points);
-        let q = conic::push_conic(pen, ctrl, to, weight, verbs, v, points, f);
-        self.drawn(0, q, 2 * q, q, to)
-    }
-
-    // A conic that is a curve, where it may have no room: its quads are laid apart, and refused by their number or copied, all of them.
-    fn bend_apart(
-        self,
-        verbs: &mut [u8],
-        points: &mut [f32],
-        ctrl: Vec2,
-        to: Vec2,
-        weight: f32,
-    ) -> Reply
-        ensures { λ r. ⌜ outcome r (now (verbs .exit)) (now (points .exit)) ≡ pushed (length (quads (from (self .started) (penOf self)) ctrl to weight)) self (now (verbs .entry)) (now (points .entry)) (opening (self .started) ++ quads (from (self .started) (penOf self)) ctrl to weight) ⌝ }
-    {
-        let pen = self.pen();
-        let mut apart = [0.0f32; conic::MAX_FLOATS];
-        let q = conic::push_points(pen, ctrl, to, weight, &mut apart, 0);
-        let l = lead_of(self.started);
-        let n = self.refused(verbs.len(), points.len(), l + q, l + 2 * q);
-        if n != 0 {
-            return self.unmoved(n);
-        }
-        let v = self.verbs + l;
-        let f = 2 * (self.points + l);
-        self.lay_opening(0, verbs, points);
-        conic::put_quads(&apart, q, verbs, v, points, f);
-        self.drawn(0, q, 2 * q, q, to)
-    }
-
     pub fn conic_to(
         self,
         verbs: &mut [u8],
@@ -402,12 +336,22 @@ impl PathBuilder {
     ) -> Reply
         ensures { λ r. ⌜ outcome r (now (verbs .exit)) (now (points .exit)) ≡ called self (now (verbs .entry)) (now (points .entry)) (ConicTo ctrl to weight) ⌝ }
     {
-        if conic::is_straight(ctrl, to, weight) {
+        if splitting::is_straight(ctrl, to, weight) {
             return self.line_to(verbs, points, to);
         }
-        if self.takes_any_conic(verbs.len(), points.len()) {
-            return self.bend_to(verbs, points, ctrl, to, weight);
-        }
-        self.bend_apart(verbs, points, ctrl, to, weight)
+        let from = self.pen();
+        let bend = lay_conic(
+            self.started,
+            verbs,
+            self.verbs,
+            points,
+            self.points,
+            from,
+            ctrl,
+            to,
+            weight,
+        );
+        let quads = bend.quads;
+        self.drawn(bend.refused, quads, 2 * quads, quads, to)
     }
 }

@@ -42,14 +42,14 @@ use vec2::Vec2;
 pub extern "C" fn hz_sqrt(x: f32) -> f32
     ensures { λ r. ⌜ r ≡ squareRoot binary32 x ⌝ }
 {
-    float::sqrt(x)
+    root::sqrt(x)
 }
 
 #[no_mangle]
 pub extern "C" fn hz_segment_count(squared: f32) -> SegmentCount
     ensures { λ r. ⌜ r ≡ segmentAnswer squared ⌝ }
 {
-    float::segment_count(squared)
+    count::segment_count(squared)
 }
 
 // ---- curves
@@ -63,7 +63,7 @@ pub extern "C" fn hz_quad_segment_count(
 ) -> SegmentCount
     ensures { λ r. ⌜ r ≡ segmentAnswer (quadS tolerance p0 p1 p2) ⌝ }
 {
-    curve::quad_segment_count(p0, p1, p2, tolerance)
+    wang::quad_segment_count(p0, p1, p2, tolerance)
 }
 
 #[no_mangle]
@@ -76,7 +76,7 @@ pub extern "C" fn hz_cubic_segment_count(
 ) -> SegmentCount
     ensures { λ r. ⌜ r ≡ segmentAnswer (cubicS tolerance p0 p1 p2 p3) ⌝ }
 {
-    curve::cubic_segment_count(p0, p1, p2, p3, tolerance)
+    wang::cubic_segment_count(p0, p1, p2, p3, tolerance)
 }
 
 #[no_mangle]

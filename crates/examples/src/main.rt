@@ -60,7 +60,7 @@ fn print_segment(s: Segment) {
 fn print_path(verbs: &[u8], points: &[f32]) {
     let mut c = Cursor { verb: 0, point: 0 };
     loop {
-        let step = path::next(verbs, points, c);
+        let step = cursor::next(verbs, points, c);
         let Step::Next(s, d) = step else {
             say(b"\n");
             return;

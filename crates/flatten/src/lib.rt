@@ -81,7 +81,7 @@ fn count_at(verbs: &[u8], points: &[f32], tolerance: f32, index: usize) -> Segme
     let mut w = spot::start_of_path();
     let mut c = Cursor { verb: 0, point: 0 };
     loop {
-        let step = path::next(verbs, points, c);
+        let step = cursor::next(verbs, points, c);
         let Step::Next(s, d) = step else {
             return measure::no_count();
         };

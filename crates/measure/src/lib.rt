@@ -39,8 +39,8 @@ pub fn curve_answer(tolerance: f32, w: Spot, s: Segment) -> SegmentCount
     match s {
         Segment::Move(_) => no_count(),
         Segment::Line(_) => no_count(),
-        Segment::Quad(c, p) => curve::quad_segment_count(pen, c, p, tolerance),
-        Segment::Cubic(c, d, p) => curve::cubic_segment_count(pen, c, d, p, tolerance),
+        Segment::Quad(c, p) => wang::quad_segment_count(pen, c, p, tolerance),
+        Segment::Cubic(c, d, p) => wang::cubic_segment_count(pen, c, d, p, tolerance),
         Segment::Close => no_count(),
     }
 }
@@ -101,11 +101,11 @@ fn add_segment(g: Gauge, tolerance: f32, s: Segment) -> Gauge
         },
         Segment::Line(p) => add_drawn(g, p, 1, 0, false),
         Segment::Quad(c, p) => {
-            let quad = curve::quad_segment_count(pen, c, p, tolerance);
+            let quad = wang::quad_segment_count(pen, c, p, tolerance);
             add_drawn(g, p, 0, quad.count as usize, quad.held)
         }
         Segment::Cubic(c, d, p) => {
-            let cubic = curve::cubic_segment_count(pen, c, d, p, tolerance);
+            let cubic = wang::cubic_segment_count(pen, c, d, p, tolerance);
             add_drawn(g, p, 0, cubic.count as usize, cubic.held)
         }
         Segment::Close => add_close(g),
@@ -129,7 +129,7 @@ pub fn measure(verbs: &[u8], points: &[f32], tolerance: f32) -> Tally
     };
     let mut c = Cursor { verb: 0, point: 0 };
     loop {
-        let step = path::next(verbs, points, c);
+        let step = cursor::next(verbs, points, c);
         let Step::Next(s, d) = step else {
             return g.sum;
         };

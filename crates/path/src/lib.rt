@@ -1,13 +1,12 @@
-// A path: verbs as bytes, each with its points in a buffer of floats, read by a cursor; and the check of a path that is handed in.
+// A path: verbs as bytes, each with its points in a buffer of floats; and the check of a path that is handed in.
 ghost use mathlib.Core.Path.{_≡_};
 ghost use mathlib.Core.Bool.{false};
 ghost use Prim.Native.Nat.{_+_, _*_, _≤_, _<_};
 ghost use lib.ListN.{length};
 ghost use Rattle.vec2.specs.Points.{pointAt};
-ghost use Rattle.path.specs.Segment.{used, segAt};
+ghost use Rattle.path.specs.Segment.{used};
 ghost use Rattle.path.specs.Style.{styleRow};
 ghost use Rattle.path.specs.Check.{maxVerbs, usedBy, anyOver4, badFirst, badList, badPath};
-ghost use Rattle.path.specs.Cursor.{nextOf};
 use vec2::Vec2;
 
 // How overlapping subpaths combine when filling.
@@ -170,7 +169,7 @@ pub fn check(verbs: &[u8], points: &[f32]) -> u8
     0
 }
 
-// ---- the cursor
+// ---- points and the cursor
 
 // Point k of a float buffer.
 pub fn point_at(points: &[f32], k: usize) -> Vec2
@@ -182,24 +181,6 @@ pub fn point_at(points: &[f32], k: usize) -> Vec2
     Vec2 { x, y }
 }
 
-// The segment of a verb whose points begin at point k.
-fn segment_at(verb: u8, points: &[f32], k: usize) -> Segment
-    requires { do ⌜ 2 * (k + used verb) ≤ (← ⟦points.len()⟧) ⌝ }
-    ensures { λ r. ⌜ r ≡ segAt verb (now (points .entry)) k ⌝ }
-{
-    match verb {
-        0 => Segment::Move(point_at(points, k)),
-        1 => Segment::Line(point_at(points, k)),
-        2 => Segment::Quad(point_at(points, k), point_at(points, k + 1)),
-        3 => Segment::Cubic(
-            point_at(points, k),
-            point_at(points, k + 1),
-            point_at(points, k + 2),
-        ),
-        _ => Segment::Close,
-    }
-}
-
 // The verbs and points that stand before the next segment.
 pub struct Cursor {
     pub verb: usize,
@@ -209,32 +190,4 @@ pub struct Cursor {
 pub enum Step {
     Next(Segment, Cursor),
     End,
-}
-
-// The segment at a cursor, and the cursor behind it; the end, where the verbs or the points end. The source's `segments`.
-pub fn next(verbs: &[u8], points: &[f32], c: Cursor) -> Step
-    ensures { λ r. ⌜ r ≡ nextOf (now (verbs .entry)) (now (points .entry)) c ⌝ }
-{
-    let i = c.verb;
-    let k = c.point;
-    if verbs.len() <= i {
-        return Step::End;
-    }
-    let v = verbs[i];
-    let u = point_count(v);
-    let n = points.len() / 2;
-    if n < u {
-        return Step::End;
-    }
-    if n - u < k {
-        return Step::End;
-    }
-    let s = segment_at(v, points, k);
-    Step::Next(
-        s,
-        Cursor {
-            verb: i + 1,
-            point: k + u,
-        },
-    )
 }

@@ -175,13 +175,13 @@ fn counts() -> bool {
 
 // Whether a quad's count is n, and is held back or not.
 fn quad(a: Vec2, c: Vec2, p: Vec2, tolerance: f32, n: u32, held: bool) -> bool {
-    let r = curve::quad_segment_count(a, c, p, tolerance);
+    let r = wang::quad_segment_count(a, c, p, tolerance);
     r.count == n && r.held == held
 }
 
 // The same for a cubic.
 fn cubic(a: Vec2, c: Vec2, d: Vec2, p: Vec2, n: u32, held: bool) -> bool {
-    let r = curve::cubic_segment_count(a, c, d, p, 0.25);
+    let r = wang::cubic_segment_count(a, c, d, p, 0.25);
     r.count == n && r.held == held
 }
 
@@ -333,7 +333,7 @@ fn held_at() -> bool {
 
 // Whether the count of s is n, and is held back or not.
 fn count_of(s: f32, n: u32, held: bool) -> bool {
-    let r = float::segment_count(s);
+    let r = count::segment_count(s);
     r.count == n && r.held == held
 }
 

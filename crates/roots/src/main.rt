@@ -61,9 +61,9 @@ fn compare(text: &[u8; 23]) -> Found {
     let x = float_of(number(text, 0, 8));
     let root = number(text, 9, 17);
     let told = number(text, 18, 22);
-    let n = float::segment_count(x);
+    let n = count::segment_count(x);
     Found {
-        root: has_pattern(float::sqrt(x), root),
+        root: has_pattern(root::sqrt(x), root),
         count: n.count == told % 0x8000,
         held: n.held == (0x8000 <= told),
     }

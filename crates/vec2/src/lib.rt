@@ -68,7 +68,7 @@ impl Vec2 {
     pub fn length(self) -> f32
         ensures { λ r. ⌜ r ≡ len self ⌝ }
     {
-        float::sqrt(self.x * self.x + self.y * self.y)
+        root::sqrt(self.x * self.x + self.y * self.y)
     }
 
     // Above zero where b turns from self toward positive angles.

@@ -86,7 +86,7 @@ fn draw_quad(out: &mut [f32], at: usize, tolerance: f32, w: Spot, c: Vec2, p: Ve
 {
     let start = w.start;
     let pen = w.pen;
-    let n = curve::quad_segment_count(pen, c, p, tolerance).count;
+    let n = wang::quad_segment_count(pen, c, p, tolerance).count;
     let a = put_if(out, at, !w.drawn, start);
     write_quad(out, a, pen, c, p, n as u16);
     a + n as usize
@@ -107,7 +107,7 @@ fn draw_cubic(
 {
     let start = w.start;
     let pen = w.pen;
-    let n = curve::cubic_segment_count(pen, c, d, p, tolerance).count;
+    let n = wang::cubic_segment_count(pen, c, d, p, tolerance).count;
     let a = put_if(out, at, !w.drawn, start);
     write_cubic(out, a, pen, c, d, p, n as u16);
     a + n as usize
@@ -205,7 +205,7 @@ pub fn write_path(
     let mut at: usize = 0;
     let mut k: usize = 0;
     loop {
-        let step = path::next(verbs, points, c);
+        let step = cursor::next(verbs, points, c);
         let Step::Next(s, d) = step else {
             end_if(verbs, c.verb, ends, marks, k, w.drawn, at);
             return;

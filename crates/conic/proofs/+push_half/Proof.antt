@@ -17,11 +17,11 @@ use Rattle.conic.proofs.Stores.{put-one, put-two}
 use Rattle.conic.proofs.push_half.Reads as push-half
 use Rattle.conic.proofs.push_half.Kinds as push-half-kinds
 use Rattle.conic.proofs.+push_half.Lts-push_half as lts
-use Rattle.conic.proofs.is_quad.Reads as is-quad
+use Rattle.splitting.proofs.is_quad.Reads as is-quad
 use Rattle.conic.proofs.put_quad.Reads as put-quad
 use Rattle.conic.proofs.level_weight.Reads as level-weight
-use Rattle.conic.proofs.left_half.Reads as left-half
-use Rattle.conic.proofs.right_half.Reads as right-half
+use Rattle.splitting.proofs.left_half.Reads as left-half
+use Rattle.splitting.proofs.right_half.Reads as right-half
 use Rattle.conic.proofs.+push_half.{statement}
 use Rattle.conic.proofs.+push_half.Tie.{close}
 

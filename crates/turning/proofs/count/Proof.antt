@@ -22,13 +22,13 @@ advance-requires-3 : tie.Need-advance-requires-3
 advance-requires-3 c κs = search needs
 
 returns : tie.Need-returns
-returns c = cc
+returns c = rw (c .advance .ensures, c .before .enum-told .given .1)
 
 returns-2 : tie.Need-returns-2
-returns-2 c = cc
+returns-2 c = rw (c .advance2 .ensures, c .before .enum-told2 .given .1)
 
 returns-3 : tie.Need-returns-3
-returns-3 c = cc
+returns-3 c = rw (c .advance3 .ensures, c .before .enum-told3 .given .1)
 
 pub count-spec : {M : Type 1} → statement M
 count-spec =

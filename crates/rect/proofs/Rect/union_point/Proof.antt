@@ -10,7 +10,7 @@ max-requires : tie.Need-max-requires
 max-requires c κs = search needs
 
 returns : tie.Need-returns
-returns c = cc
+returns c = rw (c .before .min2 .ensures, c .max2 .ensures)
 
 pub union-point-spec : {M : Type 1} → statement M
 union-point-spec = tie.close (tie.spec min-requires max-requires returns)

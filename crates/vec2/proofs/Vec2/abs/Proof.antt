@@ -9,7 +9,7 @@ abs-requires-2 : tie.Need-abs-requires-2
 abs-requires-2 c κs = search needs
 
 returns : tie.Need-returns
-returns c = cc
+returns c = rw (c .before .abs .ensures, c .abs2 .ensures)
 
 pub abs-spec : {M : Type 1} → statement M
 abs-spec = tie.close (tie.spec abs-requires abs-requires-2 returns)

@@ -9,7 +9,7 @@ max-requires-2 : tie.Need-max-requires-2
 max-requires-2 c κs = search needs
 
 returns : tie.Need-returns
-returns c = cc
+returns c = rw (c .before .max .ensures, c .max2 .ensures)
 
 pub max-spec : {M : Type 1} → statement M
 max-spec = tie.close (tie.spec max-requires max-requires-2 returns)

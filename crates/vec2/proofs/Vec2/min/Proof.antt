@@ -9,7 +9,7 @@ min-requires-2 : tie.Need-min-requires-2
 min-requires-2 c κs = search needs
 
 returns : tie.Need-returns
-returns c = cc
+returns c = rw (c .before .min .ensures, c .min2 .ensures)
 
 pub min-spec : {M : Type 1} → statement M
 min-spec = tie.close (tie.spec min-requires min-requires-2 returns)
