@@ -23,7 +23,7 @@ use Rattle.builder.specs.declared.Call.the-variants.{MoveTo, LineTo, Qua
 use Rattle.builder.specs.Call.{lays}
 use Rattle.builder.specs.Build.{startOf, penOf, step, steps, ruledBy, notedAs, setBy, finiteBox, refusal, new, Built, pushedBy, pushed, called, call, leftBy, run, refusals, freshOver}
 use Rattle.builder.specs.Laid.{Laid, nothing, put, puts, some, lay, feed, laidFrom, laidBy, pathVerbs, pathFloats}
-use Rattle.builder.specs.Room.{Room}
+use Rattle.store.specs.Refusal.{Fits}
 use Rattle.builder.proofs.Laws.{refusal-room}
 
 -- ---- what holds between a builder and the laid list
@@ -91,7 +91,7 @@ steps-counts (x ∷ xs) b =
 
 module _ (b : Built) (l : Laid) (i : Inv b l) where
   -- segments that have room
-  grow : (q : ℕ) (ss : List Segment) → Room (b .state) (length (b .bytes)) (length (b .floats)) (length ss) (length (allPoints ss)) →
+  grow : (q : ℕ) (ss : List Segment) → Fits (b .state .verbs) (b .state .points) (length (b .bytes)) (length (b .floats)) (length ss) (length (allPoints ss)) →
       Inv (leftBy (pushedBy 0 q (b .state) (b .bytes) (b .floats) ss)) (puts l ss)
   grow q ss r =
       let n = steps-counts ss (b .state) in

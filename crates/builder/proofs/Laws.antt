@@ -3,7 +3,7 @@
 -- Assumes nothing.
 use mathlib.Core.Path.{_≡_, refl, sym, _∙_}
 use mathlib.Core.Bool.{Bool, true, false, not}
-use Prim.Native.Nat.{ℕ, zero, suc, _+_, _≤_}
+use Prim.Native.Nat.{ℕ, zero, suc, _+_}
 use lib.Ieee.{Float}
 use Rattle.float.specs.Arith.{f0}
 use Rattle.float.specs.Small.{maximum}
@@ -11,11 +11,11 @@ use Rattle.vec2.specs.declared.Vec2.{Vec2}
 use Rattle.vec2.specs.Vec2.{origin}
 use Rattle.rect.specs.declared.Rect.{Rect}
 use Rattle.builder.specs.declared.Call.the-variants.{AsRoundedRect}
+use Rattle.store.specs.Refusal.{Fits}
 use Rattle.store.specs.Store.{unless}
 use Rattle.store.proofs.Refusals.{refusal-fits}
 use Rattle.builder.specs.declared.PathBuilder.{PathBuilder}
 use Rattle.builder.specs.Build.{moved, notedAs, finiteBox, setBy, refusal}
-use Rattle.builder.specs.Room.{Room}
 
 -- field by field
 pub unless-moved : (n : ℕ) (b : PathBuilder) (v k : ℕ) (a p : Vec2) →
@@ -66,6 +66,6 @@ module _ (b : PathBuilder) (x : Rect) (r : Float) (t : Bool) {lo hi : Vec2} (el 
 -- ---- the refusals
 
 module _ (b : PathBuilder) (nv nf v k : ℕ) where
-  pub refusal-room : refusal b nv nf v k ≡ 0 → Room b nv nf v k
+  pub refusal-room : refusal b nv nf v k ≡ 0 → Fits (b .verbs) (b .points) nv nf v k
   unfolding refusal
   refusal-room h = refusal-fits (b .verbs) (b .points) (b .started) nv nf v k h

@@ -22,8 +22,8 @@ use Rattle.path.specs.Segment.{bytesOf, allPoints}
 use Rattle.path.proofs.Encoded.{allPoints-append}
 use Rattle.halves.specs.Conic.{straight, quads}
 use Rattle.halves.proofs.Laws.{Quads, one, more, quads-quads, quads-points}
-use Rattle.store.specs.Store.{unless}
-use Rattle.store.proofs.Laws.{unless-not, unless-same}
+use Rattle.store.specs.Store.{unless, Stored}
+use Rattle.store.proofs.Laws.{unless-same}
 use Rattle.store.proofs.Stored.{stored-nil}
 use Rattle.drawing.specs.Lay.{opening, lead, Drawn}
 use Rattle.drawing.proofs.Laws.{lead-length, lead-points}
@@ -33,11 +33,11 @@ use Rattle.builder.specs.declared.PathBuilder.{PathBuilder}
 use Rattle.builder.specs.declared.Reply.{Reply}
 use Rattle.builder.specs.Call.{from, lays}
 use Rattle.builder.specs.Build.{startOf, moved, step, steps, refusal, Outcome, outcome, pushedBy, pushed, quadsLaid, called, penOf}
-use Rattle.builder.specs.Room.{Begun, drawnBy, repliedBy}
+use Rattle.builder.specs.Replied.{drawnBy, repliedBy}
 
 -- ---- the buffers
 
-pub begun-nil : (n : ℕ) (b : PathBuilder) (vs : List ℕ) (fs : List Float) → Begun n b vs fs [] vs fs
+pub begun-nil : (n : ℕ) (b : PathBuilder) (vs : List ℕ) (fs : List Float) → Stored n (b .verbs) (b .points) vs fs [] vs fs
 begun-nil n b vs fs = stored-nil n (b .verbs) (b .points) vs fs
 
 -- ---- the state
@@ -89,7 +89,7 @@ reply-as n q b s e = ap (λ (s : PathBuilder). record { state = s; quads = q; re
 module _ (q : ℕ) (b : PathBuilder) (vs : List ℕ) (fs : List Float) (ss : List Segment) where
   pub replied : (n : ℕ) {r : Reply} {q' : ℕ} {vs' : List ℕ} {fs' : List Float} →
       n ≡ refusal b (length vs) (length fs) (length ss) (length (allPoints ss)) → r ≡ repliedBy n q' b (steps b ss) → q' ≡ unless n 0 q →
-      Begun n b vs fs ss vs' fs' → outcome r vs' fs' ≡ pushed q b vs fs ss
+      Stored n (b .verbs) (b .points) vs fs ss vs' fs' → outcome r vs' fs' ≡ pushed q b vs fs ss
   unfolding pushed
   replied n e er eq g =
       let h : outcome (repliedBy n (unless n 0 q) b (steps b ss)) (unless n vs (sets vs (b .verbs) (bytesOf ss))) (unless n fs (sets fs (2 * b .points) (flat (allPoints ss)))) ≡ pushedBy n q b vs fs ss = refl in
@@ -108,7 +108,7 @@ module _ (q : ℕ) (b : PathBuilder) (vs : List ℕ) (fs : List Float) (ts : Lis
 
   pub laid-done : (n v k : ℕ) (p : Vec2) {r : Reply} {q' : ℕ} {vs' : List ℕ} {fs' : List Float} →
       v ≡ length ts → k ≡ length (allPoints ts) → Draws ts v k p →
-      n ≡ refusal b (length vs) (length fs) (lead (b .started) + v) (lead (b .started) + k) → Begun n b vs fs (opening (b .started) ++ ts) vs' fs' →
+      n ≡ refusal b (length vs) (length fs) (lead (b .started) + v) (lead (b .started) + k) → Stored n (b .verbs) (b .points) vs fs (opening (b .started) ++ ts) vs' fs' →
       r ≡ repliedBy n q' b (drawnBy b v k p) → q' ≡ unless n 0 q →
       outcome r vs' fs' ≡ pushed q b vs fs (opening (b .started) ++ ts)
   laid-done n v k p {r} {q'} hv hk d e g er eq =

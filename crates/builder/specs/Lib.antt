@@ -1,4 +1,4 @@
 pub mod Call
 pub mod Build
 pub mod Laid
-pub mod Room
+pub mod Replied

@@ -8,7 +8,7 @@ ghost use Rattle.drawing.specs.Lay.{lead};
 ghost use Rattle.builder.specs.declared.Call.the-variants.{MoveTo, LineTo, QuadTo, ConicTo, CubicTo, Close, WithFillRule, AsRoundedRect};
 ghost use Rattle.builder.specs.Call.{from};
 ghost use Rattle.builder.specs.Build.{fresh, startOf, penOf, moved, finiteBox, notedAs, setBy, currentOf, noteOf, refusal, outcome, called};
-ghost use Rattle.builder.specs.Room.{drawnBy, repliedBy};
+ghost use Rattle.builder.specs.Replied.{drawnBy, repliedBy};
 use bending::lay_conic;
 use drawing::lay_cubic;
 use drawing::lay_line;
@@ -184,7 +184,7 @@ impl PathBuilder {
         store::refused(self.verbs, self.points, self.started, verbs, floats, v, k)
     }
 
-    // ---- what goes before a drawn verb, and the state behind it
+    // ---- where a drawn verb begins, and the state behind it
 
     // Where a drawn verb begins.
     fn pen(self) -> Vec2

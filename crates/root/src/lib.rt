@@ -1,6 +1,6 @@
 // IEEE 754's squareRoot, from a float's bits.
 ghost use mathlib.Core.Path.{_≡_};
-ghost use Prim.Native.Nat.{_+_, _*_, _^_, _≤_, _<_};
+ghost use Prim.Native.Nat.{_^_, _≤_, _<_};
 ghost use lib.Dec.{T};
 ghost use mathlib.Core.Bool.{not};
 ghost use lib.Ieee.{binary32, ofBits, isNan};

@@ -1,4 +1,4 @@
-// One half of a conic, three points in an array, by value: its own halves, and whether it is near a quad.
+// Whether a conic is a line; and one half of a conic, three points in an array, by value: its own halves, and whether it is near a quad.
 ghost use mathlib.Core.Path.{_≡_};
 ghost use lib.Ieee.{binary32};
 ghost use Rattle.float.specs.Root.{squareRoot};

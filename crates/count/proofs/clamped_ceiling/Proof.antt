@@ -1,4 +1,4 @@
--- `count::clamped_ceiling` meets its contract: `Clamped.antt` has the ceiling of each range of patterns. Assumes nothing.
+-- `count::clamped_ceiling` meets its contract: `float/proofs/Clamped` has the ceiling of each range of patterns. Assumes nothing.
 use mathlib.Core.Path.{sym, _∙_}
 use Prim.Native.Nat.{_-_, _/_, _^_}
 use native.Mathlib.Omega.{arith}

@@ -1,4 +1,4 @@
--- `count::count_root` meets its contract: `Count.antt` has the answer for each kind of operand. Assumes nothing.
+-- `count::count_root` meets its contract: `float/proofs/Count` has the answer for each kind of operand. Assumes nothing.
 use mathlib.Core.Path.{_≡_, refl, sym, ap, _∙_, subst}
 use mathlib.Core.Bool.{true, false, not}
 use Prim.Native.Nat.{ℕ, _≤_, _<_}

@@ -1,5 +1,4 @@
 -- `count::segment_count` meets its contract: both parts of the answer are read from the root's bits. Assumes nothing.
-use mathlib.Core.Path.{_∙_}
 use lib.Ieee.{binary32}
 use borrow.Author.Needs.{needs}
 use Rattle.float.proofs.Floats.{low-no-nan}

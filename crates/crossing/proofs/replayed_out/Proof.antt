@@ -1,4 +1,4 @@
--- `capi::replayed_out` meets its contract. Assumes nothing.
+-- `crossing::replayed_out` meets its contract. Assumes nothing.
 use borrow.Author.Needs.{needs}
 use Rattle.crossing.proofs.replayed_out.Statement.{statement}
 use Rattle.crossing.proofs.replayed_out.Tie as tie

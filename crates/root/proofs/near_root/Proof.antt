@@ -1,5 +1,5 @@
 -- `root::near_root` meets its contract, which asks nothing of the result. Assumes nothing.
-use Prim.Native.Nat.{ℕ, _-_, _*_, _<_, _≤_}
+use Prim.Native.Nat.{ℕ, _-_, _*_, _≤_}
 use native.Mathlib.Omega.{arith}
 use lib.Dec.{T}
 use mathlib.Core.Bool.{not}

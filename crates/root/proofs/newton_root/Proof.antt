@@ -1,6 +1,6 @@
 -- `root::newton_root` meets its contract. The invariant of its loop: r is no smaller than the root, and below 2 ^ 25, so that no step leaves 64 bits. The measure is r.
 -- Assumes nothing.
-use mathlib.Core.Path.{_≡_, sym, subst}
+use mathlib.Core.Path.{_≡_}
 use Prim.Native.Nat.{ℕ, _+_, _-_, _*_, _/_, _^_, _≤_, _<_}
 use native.Mathlib.Nat.{le-of-lt, lt-of-lt-of-le, mul-le-mul, mul-le-mul-left, div-le-self, div-lt-iff-lt-mul}
 use native.Mathlib.Omega.{arith}

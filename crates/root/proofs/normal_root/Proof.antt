@@ -1,4 +1,4 @@
--- `root::normal_root` meets its contract: `Whole.antt` has the arithmetic, here at the parts of a normal pattern. Assumes nothing.
+-- `root::normal_root` meets its contract: `float/proofs/Whole` has the arithmetic, here at the parts of a normal pattern. Assumes nothing.
 use mathlib.Core.Path.{_≡_, sym, ap, _∙_, subst}
 use mathlib.Core.Bool.{Bool, not}
 use Prim.Native.Nat.{ℕ, _+_, _-_, _*_, _/_, _%_, _^_, _≤_, _<_}

@@ -4,8 +4,6 @@ use borrow.Author.Tests.{lt-ltb, le-ltb}
 use native.Mathlib.Numerals.{add-one}
 use Rattle.root.proofs.rounded_root.Statement.{statement}
 use Rattle.root.proofs.rounded_root.Tie as tie
-use Rattle.root.proofs.rounded_root.Reads as reads
-use Rattle.root.proofs.rounded_root.Lts as lts
 
 add-result : tie.Need-add-result
 add-result c = search needs

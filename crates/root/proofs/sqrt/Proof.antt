@@ -1,14 +1,14 @@
--- `root::sqrt` meets its contract: a value that is no NaN is read back from its bits, and `Patterns.antt` has the root of each kind of pattern. Assumes nothing.
+-- `root::sqrt` meets its contract: a value that is no NaN is read back from its bits, and `float/proofs/Patterns` has the root of each kind of pattern. Assumes nothing.
 use mathlib.Core.Path.{_≡_, refl, sym, ap, _∙_, subst}
-use mathlib.Core.Bool.{Bool, true, false, not}
+use mathlib.Core.Bool.{Bool, false, not}
 use Prim.Native.Nat.{ℕ, _%_, _^_, _≤_, _<_}
 use mathlib.Core.Logic.{⊎-elim}
-use native.Mathlib.Nat.{mod-eq-of-lt, not-le-of-lt}
+use native.Mathlib.Nat.{not-le-of-lt}
 use native.Mathlib.Omega.{arith}
-use lib.Dec.{T, ltb}
+use lib.Dec.{T}
 use lib.Ieee.{Float, nan, inf, fin, binary32, isNan, nanBits, ne, div, fits, ofBits, toBits}
 use lib.Ieee.Bits.{ofBits-toBits, toBits-lt, nanBits-above}
-use lib.Ieee.Compare.{differs-from-itself, nan-differs}
+use lib.Ieee.Compare.{differs-from-itself}
 use borrow.Author.Needs.{needs}
 use borrow.Author.Tests.{le-ltb}
 use Rattle.float.specs.Root.{squareRoot}

@@ -1,4 +1,4 @@
--- `root::subnormal_root` meets its contract: `Whole.antt` has the arithmetic, of which the code's shift is taken modulo 2 ^ 64. Assumes nothing.
+-- `root::subnormal_root` meets its contract: `float/proofs/Whole` has the arithmetic, of which the code's shift is taken modulo 2 ^ 64. Assumes nothing.
 use mathlib.Core.Path.{_≡_, sym, ap, _∙_, subst}
 use Prim.Native.Nat.{ℕ, _+_, _*_, _/_, _%_, _^_, _<_}
 use native.Mathlib.Nat.{lt-of-lt-of-le, mod-eq-of-lt}

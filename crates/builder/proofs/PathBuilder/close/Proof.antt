@@ -2,7 +2,7 @@
 use Rattle.vec2.specs.declared.Vec2.{Vec2}
 use Rattle.path.specs.declared.Segment.the-variants.{Close}
 use mathlib.Core.List.{[], _∷_}
-use Rattle.builder.specs.Room.{repliedBy}
+use Rattle.builder.specs.Replied.{repliedBy}
 use Rattle.builder.specs.Call.{lays, closing}
 use Rattle.builder.specs.Build.{called, quadsLaid, steps, moved}
 use Rattle.builder.proofs.Lays.{replied, reply-as, begun-nil, pushed-as}
