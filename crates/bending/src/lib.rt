@@ -1,4 +1,6 @@
 // What a conic that is a curve lays behind v verbs and k points that stand: a move where nothing does, and its quads; all of them, or where a number refuses them none.
+#![tactic(auto)]
+
 ghost use Rattle.std.specs.Prelude.{◌≡◌, true, ◌+◌, ◌*◌, length};
 ghost use Rattle.halves.specs.Conic.{most_quads};
 ghost use Rattle.store.specs.Refusal.{refusal_of};

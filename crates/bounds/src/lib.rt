@@ -1,4 +1,6 @@
 // The box round a path's points, and whether the points are finite and in range: `Path` of the source.
+#![tactic(auto)]
+
 ghost use Rattle.std.specs.Prelude.{◌≡◌};
 ghost use Rattle.vec2.specs.Points.{points_in};
 ghost use Rattle.bounds.specs.Bounds.{bounds_of};

@@ -1,4 +1,6 @@
 // The path builder: a state by value, verbs and points in two lent buffers.
+#![tactic(auto)]
+
 ghost use Rattle.std.specs.Prelude.{◌≡◌, ◌+◌, ◌*◌, ◌≤◌};
 ghost use Rattle.path.specs.Check.{max_points};
 ghost use Rattle.halves.specs.Conic.{most_quads};

@@ -5,6 +5,8 @@
 // whether it is started, and the pen; `N` is a fresh one. `R` sets the fill rule and `A` the rounded rectangle; `P` and `T` ask for the point and the
 // rectangle; `S` shows the buffers from a byte and a float on, and `Y` one byte and one float.
 // A line is written for each answer: its number, a conic's quads, both counts, whether it is started, the latest move's point and the pen.
+#![tactic(auto)]
+
 ghost use Rattle.std.specs.Prelude.{◌≤◌};
 
 use builder::{CurrentPoint, Note, PathBuilder, Reply};

@@ -1,4 +1,6 @@
 // The calls for C, and for what links like C: thin exports, each with its call's own promise. Slices go as pointer and length.
+#![tactic(auto)]
+
 ghost use Rattle.std.specs.Prelude.{◌≡◌};
 ghost use Rattle.std.specs.Float.{binary32};
 ghost use Rattle.float.specs.Root.{square_root};

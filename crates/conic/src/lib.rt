@@ -1,4 +1,6 @@
 // A conic as quads: split in half until it is near a quad, at most 6 deep.
+#![tactic(auto)]
+
 ghost use Rattle.std.specs.Prelude.{◌≡◌, [], ◌∷◌, ◌+◌, ◌*◌, ◌^◌, ◌≤◌, length, replicate, take};
 ghost use Rattle.std.proofs.lemmas.List.Edits.{sets};
 ghost use Rattle.halves.specs.Conic.{most_quads, half_weight, quads};

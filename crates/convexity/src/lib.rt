@@ -1,4 +1,6 @@
 // Whether an outline is convex: `polygon_convexity` and `Path::convexity` of the source.
+#![tactic(auto)]
+
 ghost use Rattle.std.specs.Prelude.{◌≡◌, ◌/◌, ◌≤◌, length};
 ghost use Rattle.path.specs.Check.{max_points};
 ghost use Rattle.turns.specs.Answer.{convexity_of, polygon_verdict, has_curve, moves, path_reason, path_verdict};

@@ -1,4 +1,6 @@
 // The number of segments of a curve, from a root's bits, and whether it was held back.
+#![tactic(auto)]
+
 ghost use Rattle.std.specs.Prelude.{◌≡◌};
 ghost use Rattle.float.specs.Pattern.{clamped_ceiling, CountRoot};
 ghost use Rattle.float.specs.Count.{segment_answer};

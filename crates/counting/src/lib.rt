@@ -1,4 +1,6 @@
 // The walk of a polyline by a dash cycle, counted.
+#![tactic(auto)]
+
 ghost use Rattle.std.specs.Prelude.{◌≡◌, false, ◌+◌, ◌^◌, ◌≤◌, ◌<◌, length};
 ghost use Rattle.float.specs.Arith.{f0};
 ghost use Rattle.vec2.specs.Points.{points_in};

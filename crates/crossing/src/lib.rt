@@ -1,4 +1,6 @@
 // What crosses to C and back: the types as C has them, and their making from the library's own and back.
+#![tactic(auto)]
+
 ghost use Rattle.std.specs.Prelude.{◌≡◌};
 ghost use Rattle.outline.specs.Answer.{answer_of};
 ghost use Rattle.crossing.specs.Builder.{rule_in, rule_out, flag_in, flag_out, state_in, state_out, reply_with, reply_out, point_out, note_out};

@@ -1,4 +1,6 @@
 // The segments of a path, one at a time.
+#![tactic(auto)]
+
 ghost use Rattle.std.specs.Prelude.{◌≡◌, ◌+◌, ◌*◌, ◌≤◌, length};
 ghost use Rattle.path.specs.Segment.{used, seg_at};
 ghost use Rattle.path.specs.Cursor.{next_of};

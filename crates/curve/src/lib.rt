@@ -1,4 +1,6 @@
 // The points of a curve, and the tolerance: flatten.rs.
+#![tactic(auto)]
+
 ghost use Rattle.std.specs.Prelude.{◌≡◌};
 ghost use Rattle.curve.specs.Count.{eval_quad, eval_cubic, scaled_tolerance};
 

@@ -1,4 +1,6 @@
 // The numbers of a dash cycle: where a walk begins, and which interval is next.
+#![tactic(auto)]
+
 ghost use Rattle.std.specs.Prelude.{◌≡◌, ◌<◌, length, drop};
 ghost use Rattle.events.specs.Zeros.{is_zero, after, first_above, next, one_above, gaps_only};
 ghost use Rattle.events.specs.Phase.{start_of};

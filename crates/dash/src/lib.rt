@@ -1,4 +1,6 @@
 // `dash_path`: a path cut into the drawn pieces of a dash pattern, and `drawn_outline`.
+#![tactic(auto)]
+
 ghost use Rattle.std.specs.Prelude.{◌≡◌, ◌%◌, ◌<◌, length};
 ghost use Rattle.path.specs.Check.{bad_path};
 ghost use Rattle.pattern.specs.Cycle.{cycle_of};

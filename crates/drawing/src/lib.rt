@@ -1,4 +1,6 @@
 // What a drawn call lays behind v verbs and k points that stand: a move where nothing does, and its own verb; whole, or where a number refuses it not at all.
+#![tactic(auto)]
+
 ghost use Rattle.std.specs.Prelude.{◌≡◌, [], ◌∷◌, ◌+◌, ◌≤◌, length};
 ghost use Rattle.path.specs.declared.Segment.TheVariants.{Line, Quad, Cubic};
 ghost use Rattle.store.specs.Refusal.{refusal_of, Fits};

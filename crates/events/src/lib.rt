@@ -1,4 +1,6 @@
 // The walk of a polyline by a dash cycle, as events: what a walk is made of. The room has definitions and laws, and no functions.
+#![tactic(auto)]
+
 use vec2::Vec2;
 
 // Where the walk is in the cycle. `left` is what is left of the interval at `index`.

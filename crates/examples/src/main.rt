@@ -1,4 +1,6 @@
 // The unstarred checked examples of the scope, run end to end: calls on a builder, flattening, dashing, and the questions.
+#![tactic(auto)]
+
 use builder::PathBuilder;
 use outline::Dashed;
 use path::{Cursor, FillRule, Segment, Step};

@@ -1,5 +1,7 @@
 // Flattening: a path's polylines as points, end to end, the number where each ends, and its mark, which says whether it is closed (W4). Measured first, written
 // after.
+#![tactic(auto)]
+
 ghost use Rattle.std.specs.Prelude.{◌≡◌, ◌*◌, ◌≤◌, length};
 ghost use Rattle.path.specs.Segment.{segments};
 ghost use Rattle.path.specs.Check.{used_by};

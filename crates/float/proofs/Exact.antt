@@ -14,6 +14,10 @@ use Rattle.float.proofs.Count.{above_of_test, above_pos, positive_above, below_t
 finite_above : (x : Float) → T (above x) → T (is_finite x) → T (positive x)
 unfolding is_finite
 finite_above (fin false (suc m) e) a f = tt
+finite_above lib.Ieee.nan a f = elim a [ ]
+finite_above (lib.Ieee.inf _) a f = elim f [ ]
+finite_above (fin false Prim.Native.Nat.zero e) a f = elim a [ ]
+finite_above (fin true _ e) a f = elim a [ ]
 
 pub roots_in_order : RootsInOrder
 roots_in_order x fit over finite =
@@ -24,3 +28,4 @@ roots_in_order x fit over finite =
   where
     is_true : {c : Bool} → T c → c ≡ true
     is_true {c = true} t = refl
+    is_true {c = false} t = elim t [ ]

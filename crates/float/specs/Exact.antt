@@ -1,7 +1,7 @@
 -- The root in IEEE 754's order (W3): first the exact result, as a whole root and what remains (`Pattern.WholeRoot`); then the rounding, from these two alone (`Pattern.rounded`).
 -- Definitions only.
 -- `HasValue x s a c` is the kit's: x is finite, has the sign s, and is a / c in size.
-use Rattle.std.specs.Prelude.{◌≡◌, ℕ, suc, ◌+◌, ◌*◌, ◌/◌, ◌^◌, ◌≤◌, ◌<◌, false, cond, T, ltb, Float}
+use Rattle.std.specs.Prelude.{◌≡◌, ℕ, ◌+◌, ◌*◌, ◌/◌, ◌^◌, ◌≤◌, ◌<◌, false, T, Float}
 use Rattle.std.specs.Float.{nan, inf, fin, binary32}
 use Rattle.std.specs.Float.Ieee.{up, down, size, fits, lt, of_bits}
 use Rattle.std.specs.Float.Ieee.Exact.{HasValue}

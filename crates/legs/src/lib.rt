@@ -1,4 +1,6 @@
 // A leg of a polyline: its length, and what a turn of the walk tells inside it and at its end.
+#![tactic(auto)]
+
 ghost use Rattle.std.specs.Prelude.{◌≡◌, not, ◌&&◌, length};
 ghost use Rattle.std.specs.Float.Ieee.{le};
 ghost use Rattle.float.specs.Arith.{f0};

@@ -1,4 +1,6 @@
 // What a dashing answers and leaves: the types, the definitions and their laws. The room has no functions.
+#![tactic(auto)]
+
 use path::FillRule;
 
 // What is cut: the verbs and points in the dash buffers, the points and polylines in the scratch, how many of the path's curves were held back, and the

@@ -1,4 +1,6 @@
 // A path: verbs as bytes, each with its points in a buffer of floats; and the check of a path that is handed in.
+#![tactic(auto)]
+
 ghost use Rattle.std.specs.Prelude.{◌≡◌, false, ◌+◌, ◌*◌, ◌≤◌, ◌<◌, length};
 ghost use Rattle.vec2.specs.Points.{point_at};
 ghost use Rattle.path.specs.Segment.{used};

@@ -1,4 +1,6 @@
 // A dash pattern: whether it can be walked, its working cycle, and the line styles.
+#![tactic(auto)]
+
 ghost use Rattle.std.specs.Prelude.{◌≡◌, ◌+◌, ◌≤◌, length};
 ghost use Rattle.std.proofs.lemmas.List.Edits.{sets};
 ghost use Rattle.float.specs.Arith.{f0};

@@ -1,4 +1,6 @@
 // The way round a polygon: the turn at each junction, and the reason that they give.
+#![tactic(auto)]
+
 ghost use Rattle.std.specs.Prelude.{◌≡◌, ◌+◌, ◌/◌, ◌%◌, ◌<◌, ◌≤◌, length};
 ghost use Rattle.vec2.specs.Points.{points_in};
 ghost use Rattle.path.specs.Check.{max_points};

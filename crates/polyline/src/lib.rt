@@ -1,5 +1,7 @@
 // What a flattening is: a path's polylines as points, end to end, the number where each ends, and its mark, which says whether it is closed (W4). The room has
 // definitions and laws, and no functions.
+#![tactic(auto)]
+
 use vec2::Vec2;
 
 // The answer: the totals, how many curves were held back (W2), and the refusal's number, 0 for none. In a refusal all others are 0.

@@ -1,4 +1,6 @@
 // The scope's flattening examples, corner paths and each refusal, run; the points are those of the Rust source. A line for each: `ok` or `NO`, and what it is.
+#![tactic(auto)]
+
 ghost use Rattle.std.specs.Prelude.{◌≤◌};
 
 use polyline::Flattened;

@@ -1,4 +1,6 @@
 // An axis-aligned bounding box: `Rect` of path.rs.
+#![tactic(auto)]
+
 ghost use Rattle.std.specs.Prelude.{◌≡◌};
 ghost use Rattle.rect.specs.Rect.{rect, empty_rect, widened, is_empty_rect, between, holds, width_of, height_of};
 

@@ -1,5 +1,7 @@
 // A list of builder calls, encoded, and played on a fresh builder: code for every list of demand 3 that two slices can hold. Calls of one kind that stand in a row are played by a
 // loop of their own, so that a turn need not ask for the kind among all.
+#![tactic(auto)]
+
 ghost use Rattle.std.specs.Prelude.{◌≡◌, ◌+◌, ◌≤◌, ◌<◌, length, drop};
 ghost use Rattle.builder.specs.Build.{set_by};
 ghost use Rattle.replay.specs.Calls as calls;

@@ -1,6 +1,8 @@
 // Runs the root and the segment count over the list on standard input: a line for each operand with its bits, those of its root, and its count,
 // all in hexadecimal; 8000 is added to a count that was held back. tools/roots.c makes the list with the machine's own square root. A line that
 // differs is written out.
+#![tactic(auto)]
+
 ghost use Rattle.std.specs.Prelude.{◌≤◌, ◌<◌};
 
 // A line: 8, 8 and 4 digits, with a space behind each number but the last.

@@ -1,4 +1,6 @@
 // Outlines and the answers to the questions about them: convexity, bounds, finiteness and range. The expected lines stand in `stdout`.
+#![tactic(auto)]
+
 use bounds::reply::Answer;
 use rect::Rect;
 use turns::{Convexity, Verdict};

@@ -1,4 +1,6 @@
 // Whether a conic is a line; and one half of a conic, three points in an array, by value: its own halves, and whether it is near a quad.
+#![tactic(auto)]
+
 ghost use Rattle.std.specs.Prelude.{◌≡◌};
 ghost use Rattle.std.specs.Float.{binary32};
 ghost use Rattle.float.specs.Root.{square_root};

@@ -1,4 +1,6 @@
 // Where a flattening stands, and where each segment leads it.
+#![tactic(auto)]
+
 ghost use Rattle.std.specs.Prelude.{◌≡◌};
 ghost use Rattle.polyline.specs.Flatten.{nowhere, close_adds, moved_to, drawn_to, after_close, after, stops};
 

@@ -1,4 +1,6 @@
 // The builder's two lent buffers: how much they take, what refuses a call, and the stores, which a refused call leaves undone.
+#![tactic(auto)]
+
 ghost use Rattle.std.specs.Prelude.{◌≡◌, true, [], ◌∷◌, ◌+◌, ◌*◌, ◌<◌, ◌≤◌, length};
 ghost use Rattle.std.proofs.lemmas.List.Edits.{sets};
 ghost use Rattle.vec2.specs.Points.{flat};

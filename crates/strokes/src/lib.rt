@@ -1,4 +1,6 @@
 // What a walk's events come to, counted and laid stroke by stroke. The room has definitions and laws, and no functions.
+#![tactic(auto)]
+
 use events::Pos;
 
 // How many verbs are laid, and whether the pen is down.

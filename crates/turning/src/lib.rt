@@ -1,4 +1,6 @@
 // One turn: its side and its quadrants, and what is kept of the turns so far.
+#![tactic(auto)]
+
 ghost use Rattle.std.specs.Prelude.{◌≡◌, ◌≤◌};
 ghost use Rattle.turns.specs.Turn.{opposed, counted, advanced, ended, full_turn};
 ghost use Rattle.turns.specs.Plane.{side_of, quadrant_of, turn_of};

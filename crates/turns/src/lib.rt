@@ -1,4 +1,6 @@
 // The turns of an outline, and what they say of it: the types, the definitions and their laws. The room has no functions.
+#![tactic(auto)]
+
 
 // ---- what the calls answer
 

@@ -1,4 +1,6 @@
 // A point, or the way from one point to another: glam's Vec2 as the scope reads it, by value.
+#![tactic(auto)]
+
 ghost use Rattle.std.specs.Prelude.{◌≡◌, ◌∷◌, [], ◌+◌, ◌*◌, ◌≤◌, length};
 ghost use Rattle.std.proofs.lemmas.List.Edits.{sets};
 ghost use Rattle.vec2.specs.Points.{flat};

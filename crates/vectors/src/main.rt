@@ -4,6 +4,8 @@
 // the number of intervals, the intervals; the number of calls, the calls, seven words each; and then every answer in the order in which `run` asks.
 // A float is its pattern; every NaN is one here, since `from_bits` takes none. Floats, ends and marks are lent as 77.5, 7777 and 165 where the list
 // says what is left alone. The number of each case that differs is written out.
+#![tactic(auto)]
+
 ghost use Rattle.std.specs.Prelude.{◌≤◌, ◌<◌};
 
 use builder::{CurrentPoint, Note, PathBuilder, Reply};

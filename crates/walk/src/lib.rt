@@ -1,4 +1,6 @@
 // The walk of every polyline that the scratch keeps: counted, and laid where the dash buffers take it.
+#![tactic(auto)]
+
 ghost use Rattle.std.specs.Prelude.{◌≡◌, ◌^◌, ◌<◌, length, drop};
 ghost use Rattle.vec2.specs.Points.{points_in};
 ghost use Rattle.float.specs.Arith.{f0};

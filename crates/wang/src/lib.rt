@@ -1,4 +1,6 @@
 // How many lines a curve becomes, by Wang's formula: flatten.rs.
+#![tactic(auto)]
+
 ghost use Rattle.std.specs.Prelude.{◌≡◌};
 ghost use Rattle.float.specs.Count.{segment_answer};
 ghost use Rattle.curve.specs.Count.{bend, second, slack, quad_s, cubic_s};

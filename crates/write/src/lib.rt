@@ -1,4 +1,6 @@
 // The points, ends and marks of a flattening, written into buffers that are known to hold them.
+#![tactic(auto)]
+
 ghost use Rattle.std.specs.Prelude.{◌≡◌, true, ◌∷◌, [], ◌+◌, ◌*◌, ◌≤◌, length};
 ghost use Rattle.std.proofs.lemmas.List.Edits.{sets};
 ghost use Rattle.vec2.specs.Points.{flat};

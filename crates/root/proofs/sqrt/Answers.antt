@@ -2,23 +2,21 @@
 use mathlib.Core.Path.{◌≡◌, refl, sym, ap, ◌∙◌, subst}
 use mathlib.Core.Bool.{Bool, false, not}
 use Prim.Native.Nat.{ℕ, ◌%◌, ◌^◌, ◌≤◌, ◌<◌}
-use mathlib.Core.Logic.{⊎_elim}
 use native.Mathlib.Nat.{not-le_of_lt}
 use native.Mathlib.Omega.{arith}
 use lib.Dec.{T}
 use lib.Ieee.{Float, nan, inf, fin, binary32, is_nan, nan_bits, ne, div, fits, of_bits, to_bits}
 use lib.Ieee.Bits.{of_bits-to_bits, to_bits-lt, nan_bits_above}
 use lib.Ieee.Compare.{differs_from_itself}
-use borrow.Author.Rules.{rules}
 use borrow.Author.Tests.{le-ltb}
 use Rattle.float.specs.Root.{square_root}
 use Rattle.float.proofs.Patterns.{root_negative, root_top, root_zero}
-use Rattle.root.proofs.sqrt.Statement.{statement}
-use Rattle.root.proofs.sqrt.Tie as tie
+use Rattle.root.proofs.sqrt.Goals.{Start, Then-b-ge8388608-2, then-b-ge8388608+else-b-lt2139095040, else-b-ge8388608}
+use Rattle.root.proofs.sqrt.Goals as goal
 
 -- what owning an `f32` tells: the format holds it
-fits_by : (c : tie.Start) → T (fits binary32 c.args.x)
-fits_by c = subst T (sym c.well-formed.0.1) tt
+fits_by : (c : Start) → T (fits binary32 c.args.x)
+fits_by c = subst T (sym c.well_formed.0.1) tt
 
 nan_root : (x : Float) → T (ne x x) → x ≡ square_root binary32 x
 unfolding square_root
@@ -53,42 +51,33 @@ module _ (x : Float) (fit : T (fits binary32 x)) where
 finite_bits : (r : ℕ) → r < 0x7f80_0000 → T (not (nan_bits binary32 r))
 finite_bits r h = subst (λ (b : Bool). T (not b)) (sym (nan_bits_above binary32 r ∙ le-ltb 2139095040 (r % 2147483648) (omega arith))) tt
 
-returns : tie.Need-returns
-returns c = nan_root c.before.args.x (subst T (sym c.if1.true) tt)
+pub returns-then-x : goal.returns-then-x
+returns-then-x c = nan_root c.args.x (subst T (sym c.if-x.true) tt)
 
-float-to-bits-b : tie.Need-float-to-bits-b
-float-to-bits-b c = no_nan c.before.args.x c.if1.false
+pub float_to_bits-b : goal.float_to_bits-b
+float_to_bits-b c = no_nan c.args.x c.if-x.false
 
-normal-root-requires : tie.Need-normal-root-requires
-normal-root-requires c κs = search rules
+pub float_from_bits-result : goal.float_from_bits-result
+float_from_bits-result c = finite_bits c.normal_root.result c.normal_root.ensures.1
 
-float-from-bits-result : tie.Need-float-from-bits-result
-float-from-bits-result c = finite_bits c.normal-root.result c.normal-root.ensures.1
+pub returns-then-b-lt2139095040 : goal.returns-then-b-lt2139095040
+returns-then-b-lt2139095040 c = of_root c.args.x (fits_by c.before.before.before.before) c.normal_root.result c.normal_root.ensures.0
 
-returns-2 : tie.Need-returns-2
-returns-2 c = of_root c.before.before.before.before.args.x (fits_by c.before.before.before.before) c.normal-root.result c.normal-root.ensures.0
+pub returns-then-b-gt2147483648 : goal.returns-then-b-gt2147483648
+returns-then-b-gt2147483648 c = quotient ∙ of_negative c.args.x (fits_by c.before.before.before) c.if-b-gt2147483648.true
 
-returns-3 : tie.Need-returns-3
-returns-3 c = quotient ∙ of_negative c.before.before.before.args.x (fits_by c.before.before.before) c.if4.true
-
-returns-4 : tie.Need-returns-4
-returns-4 c = of_zero c.before.before.before.before.args.x (fits_by c.before.before.before.before) c.if5.true
+pub returns-then-b-eq0 : goal.returns-then-b-eq0
+returns-then-b-eq0 c = of_zero c.args.x (fits_by c.before.before.before.before) c.if-b-eq0.true
 
 -- a pattern from 2 ^ 23 on that came past the first test is at least that of the infinity
-top : (c : tie.Then6) → 0x7f800000 ≤ to_bits binary32 c.before.before.before.before.before.args.x
-top c = ⊎_elim (λ w. w.1.left) (λ w. absurd (not-le_of_lt w.left c.if6.true)) c.before.before.before.if2.branch
+top : (c : Then-b-ge8388608-2) → 0x7f800000 ≤ to_bits binary32 c.args.x
+top c = elim c.if-b-ge8388608.branch [ then-b-ge8388608+else-b-lt2139095040 w ↦ w.if-b-lt2139095040.false | else-b-ge8388608 w ↦ absurd (not-le_of_lt w.if-b-ge8388608.false c.if-b-ge8388608-2.true) ]
 
-returns-5 : tie.Need-returns-5
-returns-5 c = of_top c.before.before.before.before.before.args.x (fits_by c.before.before.before.before.before) (top c) c.before.before.if4.false
+pub returns-then-b-ge8388608-2 : goal.returns-then-b-ge8388608-2
+returns-then-b-ge8388608-2 c = of_top c.args.x (fits_by c.before.before.before.before.before) (top c) c.if-b-gt2147483648.false
 
-subnormal-root-requires : tie.Need-subnormal-root-requires
-subnormal-root-requires c κs = search rules
+pub float_from_bits-result-2 : goal.float_from_bits-result-2
+float_from_bits-result-2 c = finite_bits c.subnormal_root.result c.subnormal_root.ensures.1
 
-float-from-bits-result-2 : tie.Need-float-from-bits-result-2
-float-from-bits-result-2 c = finite_bits c.subnormal-root.result c.subnormal-root.ensures.1
-
-returns-6 : tie.Need-returns-6
-returns-6 c = of_root c.before.before.before.before.before.before.args.x (fits_by c.before.before.before.before.before.before) c.subnormal-root.result c.subnormal-root.ensures.0
-
-pub sqrt_spec : {M : Type 1} → statement M
-sqrt_spec = tie.close (tie.spec returns float-to-bits-b normal-root-requires float-from-bits-result returns-2 returns-3 returns-4 returns-5 subnormal-root-requires float-from-bits-result-2 returns-6)
+pub returns : goal.returns
+returns c = of_root c.args.x (fits_by c.before.before.before.before.before.before) c.subnormal_root.result c.subnormal_root.ensures.0

@@ -7,14 +7,14 @@ use native.Mathlib.Omega.{arith}
 use lib.Dec.{T, lit≤}
 use lib.Ieee.{binary32, of_bits, is_nan, nan_bits}
 use lib.Ieee.Bits.{nan_bits_is}
-use borrow.Author.Rules.{rules}
 use Rattle.float.specs.Root.{square_root}
 use Rattle.float.specs.Pattern.{Normal, WholeRoot, rounded}
+use Rattle.float.specs.Exact.{ExactRoot}
 use Rattle.float.proofs.Floats.{low_no_nan}
 use Rattle.float.proofs.Normal.{high_normal}
-use Rattle.float.proofs.Whole.{whole, whole_lt, root-lt, root_bits, bits_lt}
-use Rattle.root.proofs.normal_root.Statement.{statement}
-use Rattle.root.proofs.normal_root.Tie as tie
+use Rattle.float.proofs.Whole.{whole, whole_lt, exact_of, root_bits, bits_lt}
+use Rattle.root.proofs.normal_root.Goals.{After-rounded_root-r}
+use Rattle.root.proofs.normal_root.Goals as goal
 
 -- what the code shifts, and its result
 abbrev operand : ℕ → ℕ
@@ -54,89 +54,55 @@ module _ (b : ℕ) (l : 8388608 ≤ b) (h : b < 0x7f800000) where
     is_root : WholeRoot (whole (8388608 + b % 8388608) (b / 8388608 + 23)) root rest
     is_root = subst (λ (n : ℕ). WholeRoot n root rest) operand_is is
 
+    exact : ExactRoot (of_bits binary32 b) ((b / 8388608 + 23 + 102) / 2) root rest
+    exact = exact_of b (8388608 + b % 8388608) (b / 8388608 + 23) parts h root rest is_root
+
     small : root < 2 ^ 24
-    small = root-lt b (8388608 + b % 8388608) (b / 8388608 + 23) parts root rest is_root
+    small = exact.most
 
     module _ (s : ℕ) (e : s ≡ rounded root rest) where
       same : packed b s ≡ (b / 8388608 + 23 + 102) / 2 * 8388608 + rounded root rest
       same = packed_is s ∙ ap (λ (x : ℕ). (b / 8388608 + 23 + 102) / 2 * 8388608 + x) e
 
+      positive : 0 < b
+      positive = omega arith
+
       in_range : packed b s < 0x7f800000
-      in_range = subst (λ (x : ℕ). x < 0x7f800000) (sym same) (bits_lt b (8388608 + b % 8388608) (b / 8388608 + 23) parts root rest is_root)
+      in_range = subst (λ (x : ℕ). x < 0x7f800000) (sym same) (bits_lt b h ((b / 8388608 + 23 + 102) / 2) root rest exact positive)
 
       right : of_bits binary32 (packed b s) ≡ square_root binary32 (of_bits binary32 b)
-      right = ap (of_bits binary32) same ∙ root_bits b (8388608 + b % 8388608) (b / 8388608 + 23) parts root rest is_root h
+      right = ap (of_bits binary32) same ∙ root_bits b h ((b / 8388608 + 23 + 102) / 2) root rest exact positive
 
-add-n : tie.Need-overflow-add-n
-add-n c = search rules
+pub float_from_bits-b : goal.float_from_bits-b
+float_from_bits-b c = no_nan c.args.b c.requires.1
 
-cast-n : tie.Need-overflow-cast-n
-cast-n c = search rules
+pub near_root-requires : goal.near_root-requires
+near_root-requires c = (number c.args.b c.requires.1, omega (arith, c.requires.1))
 
-sub-n : tie.Need-overflow-sub-n
-sub-n c = search rules
+pub whole_root-requires : goal.whole_root-requires
+whole_root-requires c = operand_lt c.args.b c.requires.0 c.requires.1
 
-cast-n-2 : tie.Need-overflow-cast-n-2
-cast-n-2 c = search rules
-
-shl-n : tie.Need-overflow-shl-n
-shl-n c = search rules
-
-float-from-bits-near-root : tie.Need-float-from-bits-near-root
-float-from-bits-near-root c = no_nan c.args.b c.requires.1
-
-near-root-requires : tie.Need-near-root-requires
-near-root-requires c κs = (number c.args.b c.requires.1, omega (arith, c.requires.1))
-
-whole-root-requires : tie.Need-whole-root-requires
-whole-root-requires c κs = operand_lt c.before.args.b c.before.requires.0 c.before.requires.1
-
-rounded-root-requires : tie.Need-rounded-root-requires
-rounded-root-requires c κs =
+pub rounded_root-r-requires : goal.rounded_root-r-requires
+rounded_root-r-requires c =
     let a = c.before.before in
-    let w = c.whole_root_lem in
+    let w = c.whole_root in
     small a.args.b a.requires.0 a.requires.1 w.result.root w.result.remainder w.ensures
 
-add-result : tie.Need-overflow-add-result
-add-result c = search rules
-
-mul-result : tie.Need-overflow-mul-result
-mul-result c = search rules
-
 -- the pattern is below that of the infinity
-below : (c : tie.After-rounded-root) → packed c.before.before.before.args.b c.rounded-root.result < 0x7f800000
+below : (c : After-rounded_root-r) → packed c.args.b c.rounded_root-r.result < 0x7f800000
 below c =
     let a = c.before.before.before in
-    let w = c.before.whole_root_lem in
-    in_range a.args.b a.requires.0 a.requires.1 w.result.root w.result.remainder w.ensures c.rounded-root.result c.rounded-root.ensures
+    let w = c.whole_root in
+    in_range a.args.b a.requires.0 a.requires.1 w.result.root w.result.remainder w.ensures c.rounded_root-r.result c.rounded_root-r.ensures
 
-cast-result : tie.Need-overflow-cast-result
-cast-result c = omega (arith, below c)
+pub overflow_cast-result : goal.overflow_cast-result
+overflow_cast-result c = omega (arith, below c)
 
-add-result-2 : tie.Need-overflow-add-result-2
-add-result-2 c = omega (arith, below c)
+pub overflow_add-result-2 : goal.overflow_add-result-2
+overflow_add-result-2 c = omega (arith, below c)
 
-returns : tie.Need-returns
+pub returns : goal.returns
 returns c =
     let a = c.before.before.before in
-    let w = c.before.whole_root_lem in
-    (right a.args.b a.requires.0 a.requires.1 w.result.root w.result.remainder w.ensures c.rounded-root.result c.rounded-root.ensures, below c)
-
-pub normal_root_spec : {M : Type 1} → statement M
-normal_root_spec =
-    tie.close
-    (tie.spec
-    add-n
-    cast-n
-    sub-n
-    cast-n-2
-    shl-n
-    float-from-bits-near-root
-    near-root-requires
-    whole-root-requires
-    rounded-root-requires
-    add-result
-    mul-result
-    cast-result
-    add-result-2
-    returns)
+    let w = c.whole_root in
+    (right a.args.b a.requires.0 a.requires.1 w.result.root w.result.remainder w.ensures c.rounded_root-r.result c.rounded_root-r.ensures, below c)
