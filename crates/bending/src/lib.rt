@@ -12,7 +12,7 @@ use store::refused;
 use vec2::Vec2;
 
 // How many quads were laid, and the number that refused them, or 0.
-#[derive(Drop)]
+#[derive(Clone, Copy)]
 pub struct Bend {
     pub quads: usize,
     pub refused: u8,

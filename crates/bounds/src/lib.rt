@@ -18,7 +18,7 @@ use vec2::Vec2;
 pub const MAX_COORDINATE: f32 = 16777216.0;
 
 // What is asked of every point.
-#[derive(Drop)]
+#[derive(Clone, Copy)]
 pub enum Question {
     Finite,
     InRange,

@@ -2,14 +2,14 @@
 use rect::Rect;
 
 #[repr(C)]
-#[derive(Drop)]
+#[derive(Clone, Copy)]
 pub struct Bounds {
     pub rect: Rect,
     pub refused: u8,
 }
 
 #[repr(C)]
-#[derive(Drop)]
+#[derive(Clone, Copy)]
 pub struct Answer {
     pub holds: bool,
     pub refused: u8,

@@ -20,7 +20,7 @@ use vec2::Vec2;
 
 // Counts first, floats next, small fields last: no padding inside. The note's box, which the drawing calls leave alone, is 16 bytes together, and what
 // they change is not beside the last byte, which is free: a loop of calls keeps each field apart then.
-#[derive(Drop)]
+#[derive(Clone, Copy)]
 pub struct PathBuilder {
     pub verbs: usize,
     pub points: usize,
@@ -39,14 +39,14 @@ pub struct PathBuilder {
 }
 
 // The answer of every call that takes the buffers: the state, how many quads a conic gave, and the number that refused it, or 0.
-#[derive(Drop)]
+#[derive(Clone, Copy)]
 pub struct Reply {
     pub state: PathBuilder,
     pub quads: usize,
     pub refused: u8,
 }
 
-#[derive(Drop)]
+#[derive(Clone, Copy)]
 pub enum Call {
     MoveTo(Vec2),
     LineTo(Vec2),
@@ -58,14 +58,14 @@ pub enum Call {
     AsRoundedRect(Rect, f32),
 }
 
-#[derive(Drop)]
+#[derive(Clone, Copy)]
 pub enum CurrentPoint {
     At(f32, f32),
     Nowhere,
 }
 
 // The rounded rectangle that a path was built from.
-#[derive(Drop)]
+#[derive(Clone, Copy)]
 pub enum Note {
     Rounded(Rect, f32),
     Unknown,

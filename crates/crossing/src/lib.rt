@@ -20,7 +20,7 @@ use vec2::Vec2;
 
 // A builder's state. The fill rule is 0 for the non-zero rule, else even-odd; a flag is 0 for false, else true.
 #[repr(C)]
-#[derive(Drop)]
+#[derive(Clone, Copy)]
 pub struct HzBuilder {
     pub verbs: usize,
     pub points: usize,
@@ -39,7 +39,7 @@ pub struct HzBuilder {
 }
 
 #[repr(C)]
-#[derive(Drop)]
+#[derive(Clone, Copy)]
 pub struct HzReply {
     pub state: HzBuilder,
     pub quads: usize,
@@ -48,7 +48,7 @@ pub struct HzReply {
 
 // The pen, where known is 1.
 #[repr(C)]
-#[derive(Drop)]
+#[derive(Clone, Copy)]
 pub struct HzPoint {
     pub x: f32,
     pub y: f32,
@@ -57,7 +57,7 @@ pub struct HzPoint {
 
 // The rounded rectangle that a path was built from, where known is 1.
 #[repr(C)]
-#[derive(Drop)]
+#[derive(Clone, Copy)]
 pub struct HzNote {
     pub rect: Rect,
     pub radius: f32,
@@ -193,7 +193,7 @@ pub fn note_out(n: Note) -> HzNote
 
 // What a played list of calls left: the state, the calls played, and how many of them were refused.
 #[repr(C)]
-#[derive(Drop)]
+#[derive(Clone, Copy)]
 pub struct HzReplayed {
     pub state: HzBuilder,
     pub calls: usize,
@@ -215,7 +215,7 @@ pub fn replayed_out(r: Replayed) -> HzReplayed
 
 // 0 for Convex, 1 for Concave.
 #[repr(C)]
-#[derive(Drop)]
+#[derive(Clone, Copy)]
 pub struct HzVerdict {
     pub convexity: u8,
     pub refused: u8,
@@ -244,7 +244,7 @@ pub fn verdict_out(v: Verdict) -> HzVerdict
 
 // What a dashing answers: kind is 0 for Whole, 1 for Cut, 2 for a refusal. Counts, the curves held back (W2) included, are 0 unless cut.
 #[repr(C)]
-#[derive(Drop)]
+#[derive(Clone, Copy)]
 pub struct HzDashed {
     pub verbs: usize,
     pub points: usize,
@@ -258,7 +258,7 @@ pub struct HzDashed {
 
 // The first so many floats, of the dash buffer where from_dash is 1, else of the path's.
 #[repr(C)]
-#[derive(Drop)]
+#[derive(Clone, Copy)]
 pub struct HzOutline {
     pub floats: usize,
     pub from_dash: u8,

@@ -4,7 +4,7 @@
 use vec2::Vec2;
 
 // Where the walk is in the cycle. `left` is what is left of the interval at `index`.
-#[derive(Drop)]
+#[derive(Clone, Copy)]
 pub struct Pos {
     pub index: usize,
     pub left: f32,
@@ -12,7 +12,7 @@ pub struct Pos {
 }
 
 // A segment of a polyline: its start, the way to its end, its end and its length.
-#[derive(Drop)]
+#[derive(Clone, Copy)]
 pub struct Leg {
     pub from: Vec2,
     pub way: Vec2,
@@ -23,7 +23,7 @@ pub struct Leg {
 // What a turn of the walk tells. Cut: a dash ends inside a leg, at the second point. Reach: a corner, the second point, is reached while drawing.
 // Both give the point where the dash began, as the source works it out, if the pen was up. Pass: a corner is reached in a gap. Nothing: a gap ends inside a leg, or an interval ended
 // where the leg begins; the pen is up.
-#[derive(Drop)]
+#[derive(Clone, Copy)]
 pub enum Event {
     Nothing,
     Cut(Vec2, Vec2),

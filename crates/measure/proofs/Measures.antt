@@ -3,7 +3,7 @@ use mathlib.Core.Path.{◌≡◌, refl, sym, ◌∙◌}
 use mathlib.Core.Bool.{false}
 use mathlib.Core.List.{List, [], ◌∷◌}
 use Prim.Native.Nat.{ℕ, ◌+◌, ◌≤◌, ◌<◌}
-use native.Mathlib.Nat.{add_zero, zero-add}
+use native.Mathlib.Nat.{add-zero, zero-add}
 use native.Mathlib.Numerals.{add-one}
 use native.Mathlib.Omega.{arith}
 use lib.ListN.{length, get_or, drop_of_length-le}
@@ -77,23 +77,23 @@ module _ (tol : Float) (w : Spot) (s : Segment) (n : SegmentCount) where
 module _ (tol : Float) (g : Gauge) (s : Segment) where
   pub more_move : (p : Vec2) → s ≡ Move p → (w : Spot) → w ≡ moved_to p → record { sum = g.sum; spot = w } ≡ gauged tol s g
   unfolding tally after is_held
-  more_move p e w h = rw (e, h) (simp add_zero)
+  more_move p e w h = rw (e, h) (simp add-zero)
 
   pub more_line : (p : Vec2) → s ≡ Line p → (r : Gauge) → r ≡ drawn_more g p 1 0 false → r ≡ gauged tol s g
   unfolding tally after is_held
-  more_line p e r h = rw (e, h) (simp add_zero)
+  more_line p e r h = rw (e, h) (simp add-zero)
 
   pub more_quad : (c p : Vec2) → s ≡ Quad c p → (n : SegmentCount) → n ≡ segment_answer (quad_s tol g.spot.pen c p) → (r : Gauge) → r ≡ drawn_more g p 0 n.count n.held → r ≡ gauged tol s g
   unfolding tally after places is_held
-  more_quad c p e n k r h = rw (e, h, k) (simp add_zero)
+  more_quad c p e n k r h = rw (e, h, k) (simp add-zero)
 
   pub more_cubic : (c d p : Vec2) → s ≡ Cubic c d p → (n : SegmentCount) → n ≡ segment_answer (cubic_s tol g.spot.pen c d p) → (r : Gauge) → r ≡ drawn_more g p 0 n.count n.held → r ≡ gauged tol s g
   unfolding tally after places is_held
-  more_cubic c d p e n k r h = rw (e, h, k) (simp add_zero)
+  more_cubic c d p e n k r h = rw (e, h, k) (simp add-zero)
 
   pub more_close : s ≡ Close → (r : Gauge) → r ≡ closed_more g → r ≡ gauged tol s g
   unfolding tally after is_held
-  more_close e r h = rw (e, h) (simp add_zero)
+  more_close e r h = rw (e, h) (simp add-zero)
 
 -- ---- the totals
 
@@ -101,7 +101,7 @@ module _ (tol : Float) (g : Gauge) (s : Segment) where
 sums : (tol : Float) (m : Tally → ℕ) (f : Spot → Segment → ℕ) → ((w : Spot) (s : Segment) (t : Tally) → m (tally tol w s t) ≡ m t + f w s) →
     (ss : List Segment) (t : Tally) (w : Spot) → m (measured tol t w ss) ≡ m t + total f w ss
 unfolding measured total
-sums tol m f e [] t w = sym (add_zero (m t))
+sums tol m f e [] t w = sym (add-zero (m t))
 sums tol m f e (s ∷ ss) t w = omega (arith, e w s t, sums tol m f e ss (tally tol w s t) (after w s))
 
 pub record Meant (tol : Float) (ss : List Segment) (t : Tally) : Type 0 where

@@ -5,7 +5,7 @@ use path::FillRule;
 
 // What is cut: the verbs and points in the dash buffers, the points and polylines in the scratch, how many of the path's curves were held back, and the
 // path's fill rule.
-#[derive(Drop)]
+#[derive(Clone, Copy)]
 pub struct Outline {
     pub verbs: usize,
     pub points: usize,
@@ -15,7 +15,7 @@ pub struct Outline {
     pub rule: FillRule,
 }
 
-#[derive(Drop)]
+#[derive(Clone, Copy)]
 pub enum Dashed {
     Whole,
     Cut(Outline),

@@ -10,14 +10,14 @@ ghost use Rattle.path.specs.Check.{max_verbs, used_by, any_over4, bad_first, bad
 use vec2::Vec2;
 
 // How overlapping subpaths combine when filling.
-#[derive(Drop)]
+#[derive(Clone, Copy)]
 pub enum FillRule {
     NonZero,
     EvenOdd,
 }
 
 // A verb with the points that it uses.
-#[derive(Drop)]
+#[derive(Clone, Copy)]
 pub enum Segment {
     Move(Vec2),
     Line(Vec2),
@@ -68,7 +68,7 @@ pub fn point_count(verb: u8) -> usize
 }
 
 // A line style's row: its intervals are the first `len` of `values`, the others 0.
-#[derive(Drop)]
+#[derive(Clone, Copy)]
 pub struct StyleRow {
     pub values: [f32; 6],
     pub len: usize,
@@ -185,13 +185,13 @@ pub fn point_at(points: &[f32], k: usize) -> Vec2
 }
 
 // The verbs and points that stand before the next segment.
-#[derive(Drop)]
+#[derive(Clone, Copy)]
 pub struct Cursor {
     pub verb: usize,
     pub point: usize,
 }
 
-#[derive(Drop)]
+#[derive(Clone, Copy)]
 pub enum Step {
     Next(Segment, Cursor),
     End,

@@ -3,7 +3,7 @@ use mathlib.Core.Path.{◌≡◌, refl, sym, ap, ◌∙◌}
 use mathlib.Core.Bool.{Bool, true, false, not, false≢true}
 use mathlib.Core.List.{List, [], ◌∷◌, ◌++◌}
 use Prim.Native.Nat.{ℕ, suc, pred, ◌+◌, ◌≤◌}
-use native.Mathlib.Nat.{add_zero, zero-add}
+use native.Mathlib.Nat.{add-zero, zero-add}
 use native.Mathlib.Omega.{arith}
 use lib.ListN.{length, length-append}
 use lib.Ieee.{Float}
@@ -113,4 +113,4 @@ endings_length tol (s ∷ ss) n w =
 
 pub polylines_are_starts : (tol : Float) (ss : List Segment) → length (ends_out tol ss) ≡ kept_starts ss
 unfolding kept_starts
-polylines_are_starts tol ss = endings_length tol ss 0 nowhere ∙ add_zero _
+polylines_are_starts tol ss = endings_length tol ss 0 nowhere ∙ add-zero _

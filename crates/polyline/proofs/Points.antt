@@ -2,7 +2,7 @@
 use mathlib.Core.Path.{◌≡◌, refl, sym, ap, ◌∙◌}
 use mathlib.Core.List.{List, [], ◌∷◌, ◌++◌}
 use Prim.Native.Nat.{ℕ, zero, suc, pred, ◌+◌, ◌-◌, ◌*◌}
-use native.Mathlib.Nat.{add_zero, add-suc, suc-add}
+use native.Mathlib.Nat.{add-zero, add-suc, suc-add}
 use native.Mathlib.Numerals.{add-one, sub-one}
 use native.Mathlib.Omega.{arith}
 use lib.ListN.{length}
@@ -15,7 +15,7 @@ use Rattle.curve.specs.Count.{param}
 use Rattle.polyline.specs.Flatten.{steps, curved}
 
 steps_snoc : (f : ℕ → Vec2) (i k : ℕ) → steps f i (suc k) ≡ steps f i k ++ f (i + k) ∷ []
-steps_snoc f i zero = rw add_zero
+steps_snoc f i zero = rw add-zero
 steps_snoc f i (suc k) =
     ap (λ (r : List Vec2). f i ∷ r) (steps_snoc f (suc i) k ∙ ap (λ (j : ℕ). steps f (suc i) k ++ f j ∷ []) (suc-add i k ∙ sym (add-suc i k)))
 

@@ -4,7 +4,7 @@ use mathlib.Core.Path.{◌≡◌, refl, sym, ap, ◌∙◌}
 use mathlib.Core.Bool.{Bool, true, false, ◌||◌, cond, true≢false, false≢true}
 use mathlib.Core.List.{List, [], ◌∷◌, ◌++◌, append_assoc, append-nil, map}
 use Prim.Native.Nat.{ℕ, ◌+◌, ◌-◌, ◌≤◌}
-use native.Mathlib.Nat.{add_zero, zero-add, add_assoc}
+use native.Mathlib.Nat.{add-zero, zero-add, add_assoc}
 use native.Mathlib.Omega.{arith}
 use lib.ListN.{length, drop, length-append}
 use lib.Seq.{take_at}
@@ -96,7 +96,7 @@ module _ (tol : Float) where
           only_if b (n + length (points_out tol part)) ++ ends_of (n + length (points_out tol part)) (map (points_out tol) (with_drawn parts))
           ≡ ends_of n (map (points_out tol) (cond b (part ∷ with_drawn parts) (with_drawn parts)))
       go true e = refl
-      go false e = rw (none_written part nowhere e refl, add_zero n)
+      go false e = rw (none_written part nowhere e refl, add-zero n)
 
   -- with `part` read of the present subpath, behind n points
   abbrev Ending : List Segment → List Segment → List (List Segment) → Type 0
@@ -160,7 +160,7 @@ module _ (tol : Float) where
 
   rises : (parts : List (List Segment)) (n : ℕ) → Rising n (ends_of n (map (points_out tol) (with_drawn parts))) (n + length (end_to_end (map (points_out tol) (with_drawn parts))))
   unfolding with_drawn
-  rises [] n = sym (add_zero n)
+  rises [] n = sym (add-zero n)
   rises (part ∷ parts) n = go (any_drawn part) refl (rises parts)
     where
       go : (b : Bool) → any_drawn part ≡ b →

@@ -4,7 +4,7 @@ use mathlib.Core.Path.{◌≡◌, refl, sym, ap, ◌∙◌, ap₂}
 use mathlib.Core.Bool.{Bool, true, false, not, ◌&&◌, false≢true}
 use mathlib.Core.List.{List, [], ◌∷◌, ◌++◌, append_assoc, append-nil}
 use Prim.Native.Nat.{ℕ, zero, suc, ◌+◌, ◌-◌}
-use native.Mathlib.Nat.{add_zero}
+use native.Mathlib.Nat.{add-zero}
 use native.Mathlib.Omega.{arith}
 use borrow.Author.Tests.{eqb-true, not_false}
 use lib.ListN.{length, length-append}
@@ -137,7 +137,7 @@ module _ (tol : Float) where
   a_move : (p : Vec2) (ss : List Segment) → Undrawn ss → Drawn (Move p ∷ ss)
   unfolding written endings after writes body source_from
   a_move p ss g a pen xs l n =
-      rw (add_zero (n + length (line a xs l)))
+      rw (add-zero (n + length (line a xs l)))
       (one_line n (line a xs l) (written tol (undrawn p p p) ss) (endings tol (n + length (line a xs l)) (undrawn p p p) ss)
       ∙ ap (λ (r : List (List Vec2)). line a xs l ∷ r) (g p p p (n + length (line a xs l)))
       ∙ sym (ap (λ (r : List (List Vec2)). r ++ source_from tol (p ∷ []) p p ss) (kept_line a xs l)))
@@ -145,11 +145,11 @@ module _ (tol : Float) where
   agree : (ss : List Segment) → Undrawn ss × Drawn ss
   unfolding written endings after writes close_adds body source_from
   agree [] = (λ a pen last n. refl, λ a pen xs l n. one_line n (line a xs l) [] [] ∙ sym (kept_line a xs l))
-  agree (Move p ∷ ss) = let g = agree ss in (λ a pen last n. rw (add_zero n) (g.0 p p p n), a_move p ss g.0)
+  agree (Move p ∷ ss) = let g = agree ss in (λ a pen last n. rw (add-zero n) (g.0 p p p n), a_move p ss g.0)
   agree (Line p ∷ ss) = let g = agree ss in (begins (Line p) ss refl g.1, goes_on (Line p) ss refl g.1)
   agree (Quad c p ∷ ss) = let g = agree ss in (begins (Quad c p) ss refl g.1, goes_on (Quad c p) ss refl g.1)
   agree (Cubic c d p ∷ ss) = let g = agree ss in (begins (Cubic c d p) ss refl g.1, goes_on (Cubic c d p) ss refl g.1)
-  agree (Close ∷ ss) = let g = agree ss in (λ a pen last n. rw (add_zero n) (g.0 a a last n), a_close ss g.1)
+  agree (Close ∷ ss) = let g = agree ss in (λ a pen last n. rw (add-zero n) (g.0 a a last n), a_close ss g.1)
 
 -- ---- a list that begins with a move, as a path that is not refused does
 

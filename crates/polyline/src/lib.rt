@@ -6,7 +6,7 @@ use vec2::Vec2;
 
 // The answer: the totals, how many curves were held back (W2), and the refusal's number, 0 for none. In a refusal all others are 0.
 #[repr(C)]
-#[derive(Drop)]
+#[derive(Clone, Copy)]
 pub struct Flattened {
     pub points: usize,
     pub polylines: usize,
@@ -20,7 +20,7 @@ pub struct Flattened {
 
 // A carried count and whether it was held back, or the refusal's number beside 0 and false.
 #[repr(C)]
-#[derive(Drop)]
+#[derive(Clone, Copy)]
 pub struct Carried {
     pub count: usize,
     pub held: bool,
@@ -29,7 +29,7 @@ pub struct Carried {
 
 // Where a flattening stands: the latest move's point, with which its polyline begins; the point that the next verb is drawn from; the point written
 // last, or the move's point before the first drawn verb; and whether the polyline has a drawn verb, so that its start is written.
-#[derive(Drop)]
+#[derive(Clone, Copy)]
 pub struct Spot {
     pub start: Vec2,
     pub pen: Vec2,
@@ -38,7 +38,7 @@ pub struct Spot {
 }
 
 // The totals that a segment adds to.
-#[derive(Drop)]
+#[derive(Clone, Copy)]
 pub struct Tally {
     pub starts: usize,
     pub lines: usize,
@@ -48,14 +48,14 @@ pub struct Tally {
 }
 
 // How far the measuring is: the totals so far, and where the flattening stands.
-#[derive(Drop)]
+#[derive(Clone, Copy)]
 pub struct Gauge {
     pub sum: Tally,
     pub spot: Spot,
 }
 
 // How far the writing is: the points that are written, and where the flattening stands.
-#[derive(Drop)]
+#[derive(Clone, Copy)]
 pub struct Trace {
     pub at: usize,
     pub spot: Spot,

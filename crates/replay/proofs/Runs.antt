@@ -10,7 +10,7 @@ use mathlib.Core.Logic.{◌⊎◌, inl, inr}
 use mathlib.Core.Bool.{Bool, false, true≢false}
 use mathlib.Core.List.{List, []}
 use Prim.Native.Nat.{ℕ, ◌+◌, ◌-◌, ◌≤◌, ◌<◌}
-use native.Mathlib.Nat.{add_zero}
+use native.Mathlib.Nat.{add-zero}
 use native.Mathlib.Omega.{arith}
 use borrow.Author.Tests.{leb-true, leb-false}
 use lib.Dec.{leb}
@@ -108,7 +108,7 @@ told_one {k} {ks} {ns} {r} n h good room vs fs s at e a =
     let c = call_of k (drop r.at ns) in
     let o : build.outcome (settled s) vs fs ≡ called r.state vs fs c = ap (λ (x : PathBuilder). build.outcome (settled x) vs fs) e ∙ told_called r.state vs fs c (takes_no_buffer k h good (drop r.at ns)) in
     went_on (turned (begins n vs fs) k good (n.calls, n.kind, room) c (settled s) (stood s (r.calls + 1) at r.refused) vs fs o refl
-    (ap₂ (λ (x y : ℕ). stood s (r.calls + 1) x y) a (sym (add_zero r.refused)))) (omega arith)
+    (ap₂ (λ (x y : ℕ). stood s (r.calls + 1) x y) a (sym (add-zero r.refused)))) (omega arith)
 
 -- ---- the whole list
 

@@ -4,7 +4,7 @@ use mathlib.Core.Path.{◌≡◌, refl, sym, ap, ap₂, ◌∙◌}
 use mathlib.Core.Bool.{Bool, true, false, cond}
 use mathlib.Core.List.{List, [], ◌∷◌}
 use Prim.Native.Nat.{ℕ, zero, suc, ◌+◌, ◌*◌}
-use native.Mathlib.Nat.{add_zero, zero-add}
+use native.Mathlib.Nat.{add-zero, zero-add}
 use native.Mathlib.Omega.{arith}
 use lib.ListN.{length}
 use lib.Seq.{sets, length-sets}
@@ -28,7 +28,7 @@ played_whole ks ns bs fs = rw (zero-add, zero-add)
 
 pub played_none : (b : Built) (cs : List Call) (n k : ℕ) → cs ≡ [] → played_to b n k ≡ played b cs n k
 unfolding played run refusals refused_of
-played_none b cs n k e = rw (e, add_zero, add_zero)
+played_none b cs n k e = rw (e, add-zero, add-zero)
 
 -- one call more, which answers o
 played_more : (b : Built) (c : Call) (cs : List Call) (n k : ℕ) → played (build.left_by (call b c)) cs (n + 1) (k + one_if (call b c).reply.refused) ≡ played b (c ∷ cs) n k

@@ -50,7 +50,7 @@ fn tell(b: PathBuilder, kind: u8, numbers: &[f32]) -> PathBuilder
 }
 
 // What a list of calls left: the state, how many calls were played, and how many of them were refused.
-#[derive(Drop)]
+#[derive(Clone, Copy)]
 pub struct Replayed {
     pub state: PathBuilder,
     pub calls: usize,
@@ -64,7 +64,7 @@ fn one_if(refused: u8) -> usize
 }
 
 // Where the playing stands: how many calls were played, the numbers that they took, how many were refused, and the state.
-#[derive(Drop)]
+#[derive(Clone, Copy)]
 struct Run {
     calls: usize,
     at: usize,

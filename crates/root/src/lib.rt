@@ -7,7 +7,7 @@ ghost use Rattle.std.specs.Float.Ieee.{of_bits, is_nan};
 ghost use Rattle.float.specs.Root.{square_root};
 ghost use Rattle.float.specs.Pattern.{Normal, WholeRoot, rounded};
 
-#[derive(Drop)]
+#[derive(Clone, Copy)]
 struct Root {
     root: u64,
     remainder: u64,
@@ -86,7 +86,7 @@ fn normal_root(b: u32) -> u32
 }
 
 // A significand of 24 digits, and the power of two that it is to be multiplied by, counted from 2^-173.
-#[derive(Drop)]
+#[derive(Clone, Copy)]
 struct Scaled {
     significand: u64,
     exponent: u32,

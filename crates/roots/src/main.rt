@@ -53,7 +53,7 @@ fn has_pattern(x: f32, b: u32) -> bool {
 }
 
 // Whether a line's root, its count and whether that was held back are what the library gives.
-#[derive(Drop)]
+#[derive(Clone, Copy)]
 struct Found {
     root: bool,
     count: bool,

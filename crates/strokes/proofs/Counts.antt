@@ -2,7 +2,7 @@
 use mathlib.Core.Path.{◌≡◌, refl, sym, ◌∙◌, ap, subst}
 use Prim.Native.Nat.{ℕ, ◌+◌, ◌≤◌, ◌<◌}
 use native.Mathlib.Omega.{arith}
-use native.Mathlib.Nat.{add_zero}
+use native.Mathlib.Nat.{add-zero}
 use mathlib.Core.Bool.{Bool, true, false, cond}
 use mathlib.Core.List.{List, [], ◌∷◌, ◌++◌}
 use lib.ListN.{length, length-append, drop, get_or}
@@ -32,7 +32,7 @@ stroke_count true n m a z = omega arith
 stroke_count false n m a z = omega arith
 
 pub tally_drawn : (k : Tip) (es : List Event) → (tally k es).at ≡ k.at + length (drawn k.down es)
-tally_drawn k [] = sym (add_zero k.at)
+tally_drawn k [] = sym (add-zero k.at)
 tally_drawn k (Nothing ∷ es) = tally_drawn (record { at = k.at; down = false }) es
 tally_drawn k (Cut a z ∷ es) =
     tally_drawn (tally_stroke k false) es
@@ -176,4 +176,4 @@ module _ (cs : List Float) where
   line_counted fs start k h = ap (λ (es : List Event). (tally k es).at) (sym (walk_start cs fs start h)) ∙ tally_drawn k (walk_polyline cs start (points_in fs))
 
   pub line_none : (fs : List Float) (start : Pos) (n : ℕ) → length fs < 2 → n ≡ n + length (drawn false (walk_polyline cs start (points_in fs)))
-  line_none fs start n h = rw (walk_none cs fs start h, add_zero)
+  line_none fs start n h = rw (walk_none cs fs start h, add-zero)

@@ -2,7 +2,7 @@
 use mathlib.Core.Path.{◌≡◌, refl, sym, ◌∙◌, ap, subst}
 use Prim.Native.Nat.{ℕ, suc, ◌+◌, ◌*◌, ◌<◌}
 use native.Mathlib.Omega.{arith}
-use native.Mathlib.Nat.{add_zero}
+use native.Mathlib.Nat.{add-zero}
 use mathlib.Core.Bool.{Bool, true, false, true≢false}
 use mathlib.Core.List.{List, [], ◌∷◌, ◌++◌}
 use lib.ListN.{length, length-append}
@@ -41,7 +41,7 @@ stroke_laid false o a z ss =
     ∙ one_laid o 0 a (1 ∷ bytes_of ss) (z ∷ all_points ss) (suc (length ss)) (suc (length (all_points ss)))
 
 pub laid_none : (o : Out) → o ≡ laid o []
-laid_none o = simp add_zero
+laid_none o = simp add-zero
 
 pub lay_drawn : (s : Sheet) (es : List Event) → (lay_all s es).page ≡ laid s.page (drawn s.down es)
 lay_drawn s [] = laid_none s.page

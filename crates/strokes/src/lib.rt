@@ -4,13 +4,13 @@
 use events::Pos;
 
 // How many verbs are laid, and whether the pen is down.
-#[derive(Drop)]
+#[derive(Clone, Copy)]
 pub struct Tip {
     pub at: usize,
     pub down: bool,
 }
 
-#[derive(Drop)]
+#[derive(Clone, Copy)]
 pub struct Walked {
     pub pos: Pos,
     pub tip: Tip,

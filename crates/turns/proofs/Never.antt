@@ -5,7 +5,7 @@ use mathlib.Core.Bool.{Bool, true, false, true≢false}
 use mathlib.Core.List.{List, [], ◌∷◌}
 use Prim.Native.Nat.{ℕ, zero, suc, ◌+◌, ◌-◌, ◌%◌, ◌≤◌, ◌<◌}
 use native.Mathlib.Omega.{arith}
-use native.Mathlib.Nat.{mod-lt, mod-add-mod, mod-eq_of_lt, add-mod_right, add_zero}
+use native.Mathlib.Nat.{mod-lt, mod-add-mod, mod-eq_of_lt, add-mod_right, add-zero}
 use lib.ListN.{length}
 use Rattle.turns.specs.Walk.{Plane, Junction, at, seek, next, junction_at, unless_same, junctions_from, junctions}
 
@@ -16,7 +16,7 @@ module _ {P : Type 0} (g : Plane P) (ps : List P) where
 
   past_none : (k : ℕ) → k < length ps → past k 0 ≡ at g ps k
   unfolding past
-  past_none k h = rw (add_zero, mod-eq_of_lt h)
+  past_none k h = rw (add-zero, mod-eq_of_lt h)
 
   past_next : (k m : ℕ) → past ((k + 1) % length ps) m ≡ past k (suc m)
   unfolding past

@@ -5,21 +5,21 @@
 // ---- what the calls answer
 
 // Whether a path is convex, which selects the fill strategy.
-#[derive(Drop)]
+#[derive(Clone, Copy)]
 pub enum Convexity {
     Convex,
     Concave,
 }
 
 // `refused` is the number of a refusal, 0 for none.
-#[derive(Drop)]
+#[derive(Clone, Copy)]
 pub struct Verdict {
     pub convexity: Convexity,
     pub refused: u8,
 }
 
 // Why an outline is Convex, the first three, or Concave.
-#[derive(Drop)]
+#[derive(Clone, Copy)]
 pub enum Reason {
     FewPoints,
     NoTurn,
@@ -35,7 +35,7 @@ pub enum Reason {
 // ---- turns
 
 // The side that a turn goes to. Straight: the turn is too small to count for the side.
-#[derive(Drop)]
+#[derive(Clone, Copy)]
 pub enum Side {
     Straight,
     Left,
@@ -43,14 +43,14 @@ pub enum Side {
 }
 
 // A turn: its side, and how many quadrants it goes through to the left.
-#[derive(Drop)]
+#[derive(Clone, Copy)]
 pub struct Turn {
     pub side: Side,
     pub advance: u32,
 }
 
 // The turns so far: their side, and the quadrants in all, read as turns to the left and to the right.
-#[derive(Drop)]
+#[derive(Clone, Copy)]
 pub struct Tally {
     pub side: Side,
     pub left: u32,

@@ -7,7 +7,7 @@ ghost use Rattle.vec2.specs.Points.{flat};
 ghost use Rattle.vec2.specs.Vec2.{vec, origin, ◌⊕◌, ◌⊖◌, ◌⊙◌, ◌⊘◌, len, perp_dot, minimum, maximum, abs_of, max_element, any_nan, all_finite, same_as};
 
 #[repr(C)]
-#[derive(Drop)]
+#[derive(Clone, Copy)]
 pub struct Vec2 {
     pub x: f32,
     pub y: f32,

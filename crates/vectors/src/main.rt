@@ -96,7 +96,7 @@ fn rule_of(n: u32) -> FillRule {
 // ---- comparing
 
 // The next answer's word, and whether all before it were the same.
-#[derive(Drop)]
+#[derive(Clone, Copy)]
 struct Tape {
     at: usize,
     same: bool,
@@ -229,7 +229,7 @@ fn first_counts<'a>(counts: &'a [usize], n: usize) -> &'a [usize] {
 
 // ---- asking
 
-#[derive(Drop)]
+#[derive(Clone, Copy)]
 struct Built {
     state: PathBuilder,
     tape: Tape,

@@ -2,7 +2,7 @@
 use mathlib.Core.Path.{◌≡◌, refl, sym, ◌∙◌, ap}
 use Prim.Native.Nat.{ℕ, ◌+◌, ◌-◌, ◌≤◌}
 use native.Mathlib.Omega.{arith}
-use native.Mathlib.Nat.{add_zero}
+use native.Mathlib.Nat.{add-zero}
 use borrow.Author.Rules.{rules}
 use lib.ListN.{length, drop, length-set, drop_of_length-le}
 use lib.Ieee.{nan}
@@ -18,7 +18,7 @@ abbrev decreases-loop : tie.decreases-loop
 decreases-loop dst₀ at src i₀ dst i = length src - i
 
 loop-holds : tie.Need-loop-init invariant-loop decreases-loop
-loop-holds c = (ap (λ (k : ℕ). sets c.args.dst.now k c.args.src.now) (add_zero c.args.at), omega arith, refl)
+loop-holds c = (ap (λ (k : ℕ). sets c.args.dst.now k c.args.src.now) (add-zero c.args.at), omega arith, refl)
 
 mul-dst : tie.Need-overflow-mul-dst invariant-loop decreases-loop
 mul-dst c = search rules

@@ -2,7 +2,7 @@
 use mathlib.Core.Path.{◌≡◌, refl, sym, ◌∙◌, ap}
 use Prim.Native.Nat.{ℕ, ◌+◌, ◌-◌, ◌*◌, ◌≤◌}
 use native.Mathlib.Omega.{arith}
-use native.Mathlib.Nat.{zero-add, add_zero}
+use native.Mathlib.Nat.{zero-add, add-zero}
 use borrow.Author.Rules.{rules}
 use mathlib.Core.List.{List}
 use lib.ListN.{length, get_or, drop, drop_of_length-le}
@@ -97,7 +97,7 @@ returns-2 c =
     let a = c.before.before.before.before.before.before.args in
     let l = c.before.loop in
     let none = ap (λ (es : List ℕ). l.k + length (left a.cycle.now a.start a.points.now l.from es)) (drop_of_length-le a.ends.now c.loop-test.false) in
-    through itself a.cap _ _ (sym (add_zero l.k) ∙ sym none ∙ l.invariant.0 ∙ zero-add _)
+    through itself a.cap _ _ (sym (add-zero l.k) ∙ sym none ∙ l.invariant.0 ∙ zero-add _)
 
 pub count_all_spec : {M : Type 1} → statement M
 count_all_spec =

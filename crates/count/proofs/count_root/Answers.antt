@@ -14,11 +14,11 @@ use Rattle.float.specs.Count.{clamped, ceiling, segment_count, held_back}
 use Rattle.float.proofs.Signs.{above}
 use Rattle.float.proofs.Clamped.{from_low, from_high, from_finite}
 use Rattle.float.proofs.Count.{above_of_test, none_of_test, no_nan, count_none, count_infinite, count_of, back_none, back_infinite, back_of, above_pos, above_top, positive_bits}
-use Rattle.count.proofs.count_root.Statement.{statement}
-use Rattle.count.proofs.count_root.Tie as tie
+use Rattle.count.proofs.count_root.Goals.{Start}
+use Rattle.count.proofs.count_root.Goals as goal
 
-fits_by : (c : tie.Start) → T (fits binary32 c.args.squared)
-fits_by c = subst T (sym c.well-formed.0.1) tt
+fits_by : (c : Start) → T (fits binary32 c.args.squared)
+fits_by c = subst T (sym c.well_formed.0.1) tt
 
 over_thousand : lt f1000 (of_bits binary32 0x7f80_0000) ≡ true
 unfolding lt of_bits of_fields
@@ -64,28 +64,25 @@ module _ (x : Float) (fit : T (fits binary32 x)) (over : T (above x)) where
 none : (x : Float) → T (not (above x)) → CountRoot x 0
 none x h = record { count = from_low 0 (omega arith) ∙ sym (count_none x h); held = zero_below ∙ sym (back_none x h); range = omega arith }
 
-float-to-bits-b : tie.Need-float-to-bits-b
-float-to-bits-b c = no_nan c.before.args.squared (above_of_test c.before.args.squared c.if1.true)
+pub float_to_bits-b : goal.float_to_bits-b
+float_to_bits-b c = no_nan c.args.squared (above_of_test c.args.squared c.if-squared.true)
 
-returns : tie.Need-returns
-returns c =
-    let x = c.before.before.args.squared in
-    infinite x (fits_by c.before.before) (above_of_test x c.before.if1.true) c.if2.true
+pub returns-then-b-ge2139095040 : goal.returns-then-b-ge2139095040
+returns-then-b-ge2139095040 c =
+    let x = c.args.squared in
+    infinite x (fits_by c.before.before) (above_of_test x c.if-squared.true) c.if-b-ge2139095040.true
 
-root-pattern-requires : tie.Need-root-pattern-requires
-root-pattern-requires c κs =
-    let x = c.before.before.args.squared in
-    (bits_pos x (fits_by c.before.before) (above_of_test x c.before.if1.true), c.if2.false)
+pub root_pattern-requires : goal.root_pattern-requires
+root_pattern-requires c =
+    let x = c.args.squared in
+    (bits_pos x (fits_by c.before.before) (above_of_test x c.if-squared.true), c.if-b-ge2139095040.false)
 
-returns-2 : tie.Need-returns-2
-returns-2 c =
+pub returns-then-squared : goal.returns-then-squared
+returns-then-squared c =
     let at-start = c.before.before.before in
     let x = at-start.args.squared in
-    finite x (fits_by at-start) (above_of_test x c.before.before.if1.true) c.before.if2.false
-    c.root-pattern.result c.root-pattern.ensures.0 c.root-pattern.ensures.1
+    finite x (fits_by at-start) (above_of_test x c.if-squared.true) c.if-b-ge2139095040.false
+    c.root_pattern.result c.root_pattern.ensures.0 c.root_pattern.ensures.1
 
-returns-3 : tie.Need-returns-3
-returns-3 c = let x = c.before.args.squared in none x (none_of_test x c.if1.false)
-
-pub count_root_spec : {M : Type 1} → statement M
-count_root_spec = tie.close (tie.spec float-to-bits-b returns root-pattern-requires returns-2 returns-3)
+pub returns : goal.returns
+returns c = let x = c.args.squared in none x (none_of_test x c.if-squared.false)
