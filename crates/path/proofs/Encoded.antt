@@ -1,17 +1,13 @@
 -- A path's code: the segments that a path is read as are those that it was written from. Assumes nothing.
-use mathlib.Core.Path.{◌≡◌, refl, sym, ap, ◌∙◌, ap₂}
-use mathlib.Core.Bool.{Bool, true, false}
-use mathlib.Core.List.{List, [], ◌∷◌, ◌++◌, append_assoc, append-nil}
-use Prim.Native.Nat.{ℕ, zero, suc, ◌+◌, ◌*◌, ◌≤◌, ◌<◌}
-use native.Mathlib.Numerals.{add-one, add-two}
-use native.Mathlib.Nat.{add-zero, add-suc, suc-add}
-use native.Mathlib.Omega.{arith}
-use lib.ListN.{length, get_or, take, drop, length-append}
+use mathlib.Core.Path.{◌≡◌, refl, ap, ◌∙◌, ap₂}
+use mathlib.Core.List.{List, [], ◌∷◌, ◌++◌, append_assoc}
+use Prim.Native.Nat.{ℕ, suc, ◌+◌}
+use lib.ListN.{length, length-append}
 use lib.Seq.{get_or-append-add, get_or-append_seam}
-use lib.Ieee.{Float, nan}
+use lib.Ieee.{nan}
 use Rattle.vec2.specs.Vec2.{vec}
 use Rattle.vec2.proofs.Points.{point_at-flat}
-use Rattle.vec2.specs.Points.{flat, points_in, point_at}
+use Rattle.vec2.specs.Points.{flat, point_at}
 use Rattle.path.specs.declared.Segment.{Segment}
 use Rattle.path.specs.declared.Segment.TheVariants.{Move, Line, Quad, Cubic, Close}
 use Rattle.vec2.specs.declared.Vec2.{Vec2}

@@ -1,5 +1,5 @@
 -- The refusals of who hands in a path: 1, 4, 5, 6, in this order ("Numbers" of the scope). Definitions only.
-use Rattle.std.specs.Prelude.{ℕ, zero, suc, ◌+◌, ◌/◌, ◌%◌, Bool, true, false, not, ◌||◌, cond, List, [], ◌∷◌, length, ltb, eqb, Float}
+use Rattle.std.specs.Prelude.{ℕ, ◌+◌, ◌/◌, ◌%◌, Bool, false, not, ◌||◌, cond, List, [], ◌∷◌, length, ltb, eqb, Float}
 use Rattle.path.specs.Segment.{used}
 
 abbrev pub max_verbs : ℕ
