@@ -3,13 +3,13 @@ use mathlib.Core.Path.{◌≡◌, refl, sym, ◌∙◌, ap, subst}
 use Prim.Native.Nat.{ℕ, zero, suc, ◌+◌, ◌-◌, ◌*◌, ◌/◌, ◌%◌, ◌≤◌, ◌<◌}
 use native.Mathlib.Omega.{arith}
 use native.Mathlib.Nat.{mod-lt}
-use mathlib.Core.Bool.{Bool, true, false, not, ◌&&◌, ◌||◌, true≢false}
+use mathlib.Core.Bool.{Bool, true, false, not, ◌||◌, true≢false}
 use mathlib.Core.List.{List, [], ◌∷◌, ◌++◌, append_assoc, cons≢nil}
 use lib.ListN.{length, get_or, drop, length-drop}
 use lib.Seq.{get_or-drop}
 use lib.Dec.{eqb, leb}
 use lib.Ieee.{Float, nan, le}
-use borrow.Author.Tests.{eqb-true, leb-true, leb-false, not_true, not_false}
+use borrow.Author.Tests.{eqb-true, leb-true, leb-false, not-true, not-false}
 use Rattle.float.specs.Arith.{plus, f0}
 use Rattle.float.specs.Small.{rem_euclid}
 use Rattle.vec2.specs.declared.Vec2.{Vec2}
@@ -62,9 +62,9 @@ one_none cs i l = nothing (drop i cs) (omega (arith, length-drop i cs, l))
 
 none_above : (l : List Float) → one_above l ≡ false → (k : ℕ) → 2 * k < length l → zero_at l (2 * k) ≡ true
 none_above [] h k m = absurd (omega arith)
-none_above (x ∷ []) h zero m = not_false (le x f0) h
+none_above (x ∷ []) h zero m = not-false (le x f0) h
 none_above (x ∷ []) h (suc k) m = absurd (omega arith)
-none_above (x ∷ y ∷ xs) h zero m = not_false (le x f0) (or_first (not (le x f0)) (one_above xs) h)
+none_above (x ∷ y ∷ xs) h zero m = not-false (le x f0) (or_first (not (le x f0)) (one_above xs) h)
 none_above (x ∷ y ∷ xs) h (suc k) m =
     let e : 2 * suc k ≡ suc (suc (2 * k)) = omega arith in
     ap (zero_at (x ∷ y ∷ xs)) e ∙ none_above xs (or_rest (not (le x f0)) (one_above xs) h) k (omega (arith, m))
@@ -76,7 +76,7 @@ record Found (l : List Float) : Type 0 where
 
 found_one : (l : List Float) → one_above l ≡ true → Found l
 found_one [] h = absurd (true≢false (sym h))
-found_one (x ∷ []) h = record { at = 0; within = omega arith; found = not_true (le x f0) h }
+found_one (x ∷ []) h = record { at = 0; within = omega arith; found = not-true (le x f0) h }
 found_one (x ∷ y ∷ xs) h = go (le x f0) refl h (λ k. found_one xs k)
   where
     later : Found xs → Found (x ∷ y ∷ xs)
@@ -178,7 +178,7 @@ module _ (g : Leg) where
 
 module _ (cs : List Float) (only : gaps_only cs ≡ true) where
   dashes : one_above cs ≡ false
-  dashes = not_true (one_above cs) (both_left (not (one_above cs)) (one_above (drop 1 cs)) only)
+  dashes = not-true (one_above cs) (both_left (not (one_above cs)) (one_above (drop 1 cs)) only)
 
   some : Found cs
   some =

@@ -12,7 +12,7 @@ use Rattle.events.specs.declared.Pos.{Pos}
 use Rattle.events.specs.declared.Leg.{Leg}
 use Rattle.events.specs.declared.Event.{Event}
 use Rattle.events.specs.declared.Event.TheVariants.{Nothing, Cut, Reach, Pass}
-use Rattle.events.specs.Walk.{nothing_left, turned, inside, Told, Place, place, goes, cut_from, beginning_at, cut_leg, passed, leg_of, is_walked, walk_from}
+use Rattle.events.specs.Walk.{nothing_left, turned, inside, Told, place, goes, cut_from, beginning_at, cut_leg, passed, leg_of, is_walked, walk_from}
 use Rattle.events.specs.Drawn.{down_to, drawn}
 use Rattle.events.specs.Laws.{EndsThere}
 use Rattle.events.proofs.Turns.{cut_stop, cut_step}

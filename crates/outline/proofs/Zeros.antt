@@ -7,7 +7,7 @@ use mathlib.Core.List.{List, [], ◌∷◌, ◌++◌}
 use lib.ListN.{length, length-append}
 use lib.Dec.{eqb}
 use lib.Ieee.{Float, le}
-use borrow.Author.Tests.{eqb-true, not_true}
+use borrow.Author.Tests.{eqb-true, not-true}
 use Rattle.float.specs.Arith.{f0}
 use Rattle.vec2.specs.declared.Vec2.{Vec2}
 use Rattle.polyline.specs.Polylines.{polylines}
@@ -61,7 +61,7 @@ walk_is_source intervals phase p h =
     let z = both_second (some intervals) (no_zero intervals) d in
     let s = both_left (some intervals) (no_zero intervals) d in
     walk_as_source (cycle_of intervals) (cycle_no_zero intervals z s) (cycle_even intervals z s) (cycle_some intervals z s) phase (period intervals) p
-    (not_true met (both_second (some intervals && no_zero intervals) (not met) h))
+    (not-true met (both_second (some intervals && no_zero intervals) (not met) h))
 
 dashes_as_source : (intervals : List Float) (phase : Float) (ps : List Vec2) (es : List ℕ) → source_decides intervals phase ps es ≡ true → dashes intervals phase ps es ≡ source_dashes intervals phase ps es
 dashes_as_source intervals phase ps es h =
@@ -70,7 +70,7 @@ dashes_as_source intervals phase ps es h =
     let z = both_second (some intervals) (no_zero intervals) p in
     let s = both_left (some intervals) (no_zero intervals) p in
     all_as_source (cycle_of intervals) (cycle_no_zero intervals z s) (cycle_even intervals z s) (cycle_some intervals z s) phase (period intervals) (polylines 0 ps es)
-    (not_true met (both_second (some intervals && no_zero intervals) (not met) h))
+    (not-true met (both_second (some intervals && no_zero intervals) (not met) h))
 
 pub zeros_and_corners : (intervals : List Float) (phase : Float) → ZerosAndCorners intervals phase
 zeros_and_corners intervals phase =

@@ -1,5 +1,5 @@
 -- A pattern of zeros alone is not usable. Assumes nothing.
-use mathlib.Core.Path.{◌≡◌, refl, sym, ◌∙◌, ap}
+use mathlib.Core.Path.{◌≡◌, refl, ◌∙◌, ap}
 use mathlib.Core.Logic.{◌⊎◌, inl, inr}
 use mathlib.Core.Bool.{Bool, true, false, ◌&&◌}
 use mathlib.Core.List.{List, [], ◌∷◌}
@@ -7,7 +7,7 @@ use lib.Count.{count_trailing_zeros}
 use lib.Ieee.{Float, binary32, add, sum, round, size, units, odd, span, climb, lt, of_bits, of_fields}
 use Rattle.float.specs.Arith.{plus, f0}
 use Rattle.float.specs.Small.{is_finite}
-use Rattle.pattern.specs.Cycle.{sum_from, all_good, some, AllZero, period, usable, cuts}
+use Rattle.pattern.specs.Cycle.{sum_from, all_good, some, AllZero, period, cuts}
 
 add_zero : plus f0 f0 ≡ f0
 unfolding add sum round size units odd span climb of_bits of_fields count_trailing_zeros

@@ -1,10 +1,10 @@
 -- A path that is not refused. Assumes nothing.
 use mathlib.Core.Path.{◌≡◌, refl}
-use mathlib.Core.Bool.{Bool, true, false, not, ◌||◌, cond, true≢false}
+use mathlib.Core.Bool.{Bool, true, false, not, ◌||◌, cond}
 use mathlib.Core.List.{List}
 use Prim.Native.Nat.{ℕ, ◌/◌, ◌%◌, ◌≤◌}
 use native.Mathlib.Omega.{arith}
-use borrow.Author.Tests.{ltb-false, eqb-true, not_false}
+use borrow.Author.Tests.{ltb-false, eqb-true, not-false}
 use lib.Dec.{ltb, eqb}
 use lib.ListN.{length}
 use lib.Ieee.{Float}
@@ -31,5 +31,5 @@ sound vs fs h =
     record {
       few = ltb-false max_verbs (length vs) (first_false (ltb max_verbs (length vs)) (ltb max_points (length fs / 2)) n.0).0;
       first = f.0;
-      used = eqb-true (used_by vs) (length fs / 2) (not_false _ f.1);
+      used = eqb-true (used_by vs) (length fs / 2) (not-false _ f.1);
     }

@@ -6,7 +6,7 @@ use mathlib.Core.List.{List, [], ◌∷◌, ◌++◌, append_assoc, append-nil}
 use Prim.Native.Nat.{ℕ, zero, suc, ◌+◌, ◌-◌}
 use native.Mathlib.Nat.{add-zero}
 use native.Mathlib.Omega.{arith}
-use borrow.Author.Tests.{eqb-true, not_false}
+use borrow.Author.Tests.{eqb-true, not-false}
 use lib.ListN.{length, length-append}
 use lib.Seq.{take_at, drop_at}
 use lib.Ieee.{Float}
@@ -163,4 +163,4 @@ pub as_source : (vs : List ℕ) (fs : List Float) (tol : Float) → bad_path vs 
 unfolding written endings source_from source
 as_source [] fs tol h = refl
 as_source (zero ∷ vs) fs tol h = from_move tol (point_at fs 0) (segs_from vs fs 1)
-as_source (suc v ∷ vs) fs tol h = absurd (omega (arith, eqb-true (suc v) 0 (not_false _ (sound (suc v ∷ vs) fs h).first)))
+as_source (suc v ∷ vs) fs tol h = absurd (omega (arith, eqb-true (suc v) 0 (not-false _ (sound (suc v ∷ vs) fs h).first)))

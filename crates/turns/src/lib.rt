@@ -1,7 +1,6 @@
 // The turns of an outline, and what they say of it: the types, the definitions and their laws. The room has no functions.
 #![tactic(auto)]
 
-
 // ---- what the calls answer
 
 // Whether a path is convex, which selects the fill strategy.

@@ -1,6 +1,6 @@
 -- `next_other` meets its contract. The loop's invariant: what is left of the search gives what the whole one gives. Assumes nothing.
 use borrow.Author.Rules.{rules}
-use borrow.Author.Tests.{not_true, not_false}
+use borrow.Author.Tests.{not-true, not-false}
 use mathlib.Core.Path.{◌≡◌, refl, sym, ap, ◌∙◌}
 use mathlib.Core.Bool.{true, false}
 use Prim.Native.Nat.{◌/◌, ◌<◌}
@@ -40,7 +40,7 @@ returns c =
     let fs = a.points.now in
     let found = read fs l.k _ l.invariant.0 c.before.before.point_at.ensures in
     let other : same_as (at plane (points_in fs) l.k) a.b ≡ false =
-    ap (λ (p : Vec2). same_as p a.b) (sym found) ∙ sym c.before.same.ensures ∙ not_true _ c.if1.true in
+    ap (λ (p : Vec2). same_as p a.b) (sym found) ∙ sym c.before.same.ensures ∙ not-true _ c.if1.true in
     (seek_stop plane (points_in fs) _ (length-points_in fs) a.b l.left l.k _ other ∙ l.invariant.2, l.invariant.0)
 
 add-around : tie.Need-overflow-add-around invariant-loop decreases-loop
@@ -63,7 +63,7 @@ loop-again c =
     let fs = a.points.now in
     let found = read fs l.k _ l.invariant.0 q.before.before.point_at.ensures in
     let passed : same_as (at plane (points_in fs) l.k) a.b ≡ true =
-    ap (λ (p : Vec2). same_as p a.b) (sym found) ∙ sym q.before.same.ensures ∙ not_false _ q.if1.false in (
+    ap (λ (p : Vec2). same_as p a.b) (sym found) ∙ sym q.before.same.ensures ∙ not-false _ q.if1.false in (
       c.around.ensures.1,
       refl,
       seek_pass plane (points_in fs) _ (length-points_in fs) a.b l.left l.k _ _ (omega arith) passed c.around.ensures.0 ∙ l.invariant.2,

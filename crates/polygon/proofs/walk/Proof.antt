@@ -1,6 +1,6 @@
 -- `walk` meets its contract. The loop's invariant: judging the junctions that are left from the present tally gives what judging all gives. Assumes nothing.
 use borrow.Author.Rules.{rules}
-use borrow.Author.Tests.{not_true, not_false}
+use borrow.Author.Tests.{not-true, not-false}
 use mathlib.Core.Path.{◌≡◌, refl, sym, ap, ◌∙◌}
 use mathlib.Core.Logic.{⊎_elim}
 use Prim.Native.Nat.{◌-◌, ◌*◌, ◌/◌, ◌≤◌}
@@ -73,7 +73,7 @@ returns c =
     let a = read fs _ _ h q.before.before.point_at.ensures in
     let b = read fs _ _ j.around.ensures.1 q.before.point-at2.ensures in
     on_opposed plane (points_in fs) _ (length-points_in fs) l.t l.i _ h j.around.ensures.0 _ l.invariant.4 _ _ a b
-    (omega arith) (sym q.same.ensures ∙ not_true _ d.before.if1.true)
+    (omega arith) (sym q.same.ensures ∙ not-true _ d.before.if1.true)
     _ d.around2.ensures.0 _ e.before.next-other.ensures.0 _ (read fs _ _ e.before.next-other.ensures.1 e.point-at3.ensures)
     _ c.before.before.turn_at.ensures.0 (sym c.before.opposes.ensures ∙ c.if2.true)
 
@@ -104,7 +104,7 @@ loop-again c =
       omega (arith, most.0, l.invariant.2),
       omega (arith, most.1, l.invariant.3),
       on_counted plane (points_in fs) _ (length-points_in fs) l.t l.i _ h j.around.ensures.0 _ l.invariant.4 _ _ a b
-          (omega (arith, j.before.before.before.before.requires.0)) (sym q.same.ensures ∙ not_true _ w.0.taken)
+          (omega (arith, j.before.before.before.before.requires.0)) (sym q.same.ensures ∙ not-true _ w.0.taken)
           _ w.1.ensures.0 _ w.2.ensures.0 _ (read fs _ _ w.2.ensures.1 w.3.ensures)
           _ w.4.ensures.0 _ (sym w.5.ensures ∙ w.6.left) u,
     ))
@@ -115,7 +115,7 @@ loop-again c =
       omega (arith, ap (λ (t : Tally). t.right) w.1, l.invariant.3),
       rw w.1
           (on_none plane (points_in fs) _ (length-points_in fs) l.t l.i _ h j.around.ensures.0 _ l.invariant.4 _ _ a b
-          (sym q.same.ensures ∙ not_false _ w.0.left)),
+          (sym q.same.ensures ∙ not-false _ w.0.left)),
     ))
     c.if1.branch
 
