@@ -19,7 +19,7 @@ use Rattle.strokes.specs.declared.Walked.{Walked}
 use Rattle.float.specs.Arith.{f0, plus}
 use Rattle.events.specs.Walk.{nothing_left, turned, inside, resting, Told, Place, place, goes, onward, cut_from, beginning_at, cut_leg, passed, is_walked, leg_of, walk_from, walk_polyline}
 use Rattle.strokes.proofs.Lays.{room_start}
-use Rattle.strokes.specs.Lay.{Room, Sheet, laid, lay_event, lay_all, lay_turn}
+use Rattle.strokes.specs.Lay.{Room, Sheet, lay_event, lay_all, lay_turn}
 use Rattle.strokes.specs.Count.{tally_turn}
 use Rattle.events.proofs.Turns.{cut_stop, cut_step}
 

@@ -1,14 +1,14 @@
 -- Which lengths are walked: those above zero with a pattern below the infinity's. Assumes nothing.
 use mathlib.Core.Path.{◌≡◌, refl, sym, ap, ◌∙◌, subst}
 use mathlib.Core.Bool.{Bool, true, false, not, ◌&&◌, ◌||◌, beq}
-use Prim.Native.Nat.{ℕ, zero, suc, ◌+◌, ◌*◌, ◌≤◌, ◌<◌}
+use Prim.Native.Nat.{ℕ, zero, suc, ◌+◌, ◌*◌, ◌<◌}
 use native.Mathlib.Nat.{zero-mul, mul-pos, zero-lt-suc}
 use native.Mathlib.Omega.{arith}
 use lib.Dec.{T, ltb, eqb}
 use lib.Ieee.{Float, nan, inf, fin, binary32, up, down, lt, eq, le, fits, of_bits, to_bits}
 use lib.Ieee.Bits.{of_bits-to_bits}
 use lib.Ieee.Fits.{up_pos}
-use borrow.Author.Tests.{ltb-true, ltb-false, lt-ltb, le-ltb, eq-eqb, ne_eqb}
+use borrow.Author.Tests.{ltb-true, ltb-false, lt-ltb, le-ltb, ne_eqb}
 use Rattle.float.specs.Arith.{f0}
 use Rattle.float.specs.Small.{is_finite}
 use Rattle.float.proofs.Signs.{above, positive}
@@ -26,6 +26,10 @@ finite_walks (fin false (suc m) e) h =
     let a : ltb (suc m * up e * 1) (0 * 1 * down e) ≡ false = le-ltb (suc m * up e * 1) (0 * 1 * down e) (omega arith) in
     let b : eqb (suc m * up e * 1) (0 * 1 * down e) ≡ false = ne_eqb (suc m * up e * 1) (0 * 1 * down e) (λ q. omega (arith, q, p, z)) in
     rw (a, b)
+finite_walks nan h = elim h [ ]
+finite_walks (inf _) h = elim h [ ]
+finite_walks (fin false zero e) h = elim h [ ]
+finite_walks (fin true _ e) h = elim h [ ]
 
 pub above_walks : (x : Float) → T (fits binary32 x) → T (above x) → ltb (to_bits binary32 x) 0x7f80_0000 ≡ walks x
 unfolding is_finite

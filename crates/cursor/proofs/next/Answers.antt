@@ -1,6 +1,5 @@
 use native.Mathlib.Omega.{arith}
 use Rattle.path.proofs.Steps.{no_verb, no_points, there}
-use borrow.Author.Rules.{rules}
 use Rattle.cursor.proofs.next.Goals as goal
 
 pub returns-then-verbs-i : goal.returns-then-verbs-i

@@ -48,5 +48,5 @@ returns-in-3 c = seg_cubic _ _ _ _ _ _ c.in-3.is c.point_at-in-3.ensures c.point
 
 pub returns-in_default : goal.returns-in_default
 returns-in_default c =
-    let r = c.in_default-own.rest in
+    let r = c.before.in_default.in_default-own.rest in
     seg_close c.args.verb _ _ r.0.0.0.1 r.0.0.1 r.0.1 r.1
