@@ -1,0 +1,15 @@
+-- `conic::put_floats` meets its contract: what is left of the floats, stored over the present ones, is the same at each turn. Assumes nothing.
+use mathlib.Core.Path.{◌≡◌, refl, sym, ◌∙◌}
+use Prim.Native.Nat.{◌+◌, ◌-◌, ◌≤◌}
+use native.Mathlib.Omega.{arith}
+use borrow.Author.Rules.{rules}
+use lib.ListN.{length, take, drop, length-set}
+use lib.Seq.{sets, length-take-le, get_or-take}
+use Rattle.conic.proofs.Stores.{store_first, store_on, store_done}
+use Rattle.conic.proofs.put_floats.Given as goal
+
+abbrev pub invariant-loop-i : goal.invariant-loop-i
+invariant-loop-i l = (sets l.floats (l.fn.f + l.i) (drop l.i (take l.fn.n l.fn.from)) ≡ sets l.initial.floats l.fn.f (take l.fn.n l.fn.from)) × (l.i ≤ l.fn.n) × (length l.floats ≡ length l.initial.floats)
+
+abbrev pub decreases-loop-i : goal.decreases-loop-i
+decreases-loop-i l = l.fn.n - l.i

@@ -1,0 +1,14 @@
+-- `keep_lengths` meets its contract. Assumes nothing.
+use mathlib.Core.Path.{◌≡◌, refl, sym, ◌∙◌, ap}
+use Prim.Native.Nat.{ℕ, ◌-◌, ◌≤◌}
+use native.Mathlib.Omega.{arith}
+use borrow.Author.Rules.{rules}
+use lib.ListN.{length, length-set}
+use Rattle.strokes.proofs.Lengths.{Below, length_is, keep_more, keep_end, keep_full}
+use Rattle.legs.proofs.keep_lengths.Given as goal
+
+abbrev pub invariant-loop-k : goal.invariant-loop-k
+invariant-loop-k l = Below l.kept l.fn.points l.k × (length l.kept ≡ length l.initial.kept)
+
+abbrev pub decreases-loop-k : goal.decreases-loop-k
+decreases-loop-k l = length l.initial.kept - l.k

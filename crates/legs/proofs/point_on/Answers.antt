@@ -1,0 +1,6 @@
+-- `point_on` meets its contract. Assumes nothing.
+use borrow.Author.Rules.{rules}
+use Rattle.legs.proofs.point_on.Goals as goal
+
+pub returns : goal.returns
+returns c = cc

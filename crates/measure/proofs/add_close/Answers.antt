@@ -1,0 +1,5 @@
+use borrow.Author.Rules.{rules}
+use Rattle.measure.proofs.add_close.Goals as goal
+
+pub returns : goal.returns
+returns c = cc

@@ -1,0 +1,14 @@
+-- `polygon_reason` meets its contract. Assumes nothing.
+use borrow.Author.Tests.{lt-ltb, le-ltb}
+use Rattle.vec2.proofs.Points.{length-points_in}
+use Rattle.turns.specs.Walk.{reason_of}
+use borrow.Author.Rules.{rules}
+use Rattle.polygon.proofs.polygon_reason.Goals as goal
+
+pub returns-then-points-lt3 : goal.returns-then-points-lt3
+unfolding reason_of
+returns-then-points-lt3 c = rw (length-points_in, lt-ltb _ _ c.if-points-lt3.true)
+
+pub returns : goal.returns
+unfolding reason_of
+returns c = rw (length-points_in, le-ltb _ _ c.if-points-lt3.false) c.walk.ensures

@@ -1,0 +1,90 @@
+-- `walk` meets its contract. The loop's invariant: judging the junctions that are left from the present tally gives what judging all gives. Assumes nothing.
+use borrow.Author.Rules.{rules}
+use borrow.Author.Tests.{not-true, not-false}
+use mathlib.Core.Path.{◌≡◌, refl, sym, ap, ◌∙◌}
+use mathlib.Core.Logic.{⊎_elim}
+use Prim.Native.Nat.{◌-◌, ◌*◌, ◌/◌, ◌≤◌}
+use native.Mathlib.Omega.{arith}
+use native.Mathlib.Nat.{sub-zero}
+use lib.ListN.{length}
+use Rattle.vec2.specs.Points.{points_in}
+use Rattle.vec2.proofs.Points.{length-points_in}
+use Rattle.turns.specs.Plane.{floats as plane}
+use Rattle.turns.specs.Walk.{junctions, judge, walked}
+use Rattle.turns.specs.declared.Tally.{Tally}
+use Rattle.turns.proofs.Walks.{read, ahead, counted_most, on_none, on_opposed, on_counted, on_end}
+use Rattle.polygon.proofs.walk.Goals as goal
+
+pub loop-i-init : goal.loop-i-init
+unfolding walked junctions ahead
+loop-i-init c = (omega arith, refl, omega arith, omega arith, rw (length-points_in, sub-zero))
+
+pub same-requires : goal.same-requires
+same-requires c = tt
+
+pub next_other-k-requires : goal.next_other-k-requires
+next_other-k-requires c = c.around.ensures.1
+
+pub turn_at-turned-requires : goal.turn_at-turned-requires
+turn_at-turned-requires c = tt
+
+pub opposes-requires : goal.opposes-requires
+opposes-requires c = tt
+
+pub returns-then-opposes : goal.returns-then-opposes
+returns-then-opposes c =
+    let e = c.before.before.before in
+    let d = e.before.before in
+    let q = d.before.before in
+    let j = q.before.before.before in
+    let l = j.loop-i in
+    let h = j.loop-i-test.true in
+    let fs = j.args.points.now in
+    let a = read fs _ _ h q.point_at-a.ensures in
+    let b = read fs _ _ j.around-j.ensures.1 q.point_at-b.ensures in
+    on_opposed plane (points_in fs) _ (length-points_in fs) l.t l.i _ h j.around-j.ensures.0 _ l.invariant.4 _ _ a b
+    (omega arith) (sym q.same.ensures ∙ not-true _ d.if-not-same.true)
+    _ d.around.ensures.0 _ e.next_other-k.ensures.0 _ (read fs _ _ e.next_other-k.ensures.1 e.point_at-c.ensures)
+    _ c.turn_at-turned.ensures.0 (sym c.opposes.ensures ∙ c.if-opposes.true)
+
+pub loop-i-preserved : goal.loop-i-preserved
+loop-i-preserved c =
+    let q = c.before in
+    let j = q.before.before.before in
+    let l = j.loop-i in
+    let h = j.loop-i-test.true in
+    let fs = j.args.points.now in
+    let a = read fs _ _ h q.point_at-a.ensures in
+    let b = read fs _ _ j.around-j.ensures.1 q.point_at-b.ensures in
+    ⊎_elim
+    (λ w.
+    let u = w.8 ∙ w.7.ensures in
+    let most = counted_most l.t _ w.4.result u w.4.ensures.1 in (
+      omega arith,
+      refl,
+      omega (arith, most.0, l.invariant.2),
+      omega (arith, most.1, l.invariant.3),
+      on_counted plane (points_in fs) _ (length-points_in fs) l.t l.i _ h j.around-j.ensures.0 _ l.invariant.4 _ _ a b
+          (omega (arith, j.requires.0)) (sym q.same.ensures ∙ not-true _ w.0.taken)
+          _ w.1.ensures.0 _ w.2.ensures.0 _ (read fs _ _ w.2.ensures.1 w.3.ensures)
+          _ w.4.ensures.0 _ (sym w.5.ensures ∙ w.6.left) u,
+    ))
+    (λ w. (
+      omega arith,
+      refl,
+      omega (arith, ap (λ (t : Tally). t.left) w.1, l.invariant.2),
+      omega (arith, ap (λ (t : Tally). t.right) w.1, l.invariant.3),
+      rw w.1
+          (on_none plane (points_in fs) _ (length-points_in fs) l.t l.i _ h j.around-j.ensures.0 _ l.invariant.4 _ _ a b
+          (sym q.same.ensures ∙ not-false _ w.0.left)),
+    ))
+    c.if-not-same.branch
+
+pub end-requires : goal.end-requires
+end-requires c = tt
+
+pub returns : goal.returns
+returns c =
+    let l = c.loop-i in
+    let fs = c.args.points.now in
+    c.end.ensures ∙ on_end plane (points_in fs) _ (length-points_in fs) l.t l.i c.loop-i-test.false _ l.invariant.4

@@ -1,0 +1,23 @@
+-- `walk` meets its contract. The loop's invariant: judging the junctions that are left from the present tally gives what judging all gives. Assumes nothing.
+use borrow.Author.Rules.{rules}
+use borrow.Author.Tests.{not-true, not-false}
+use mathlib.Core.Path.{◌≡◌, refl, sym, ap, ◌∙◌}
+use mathlib.Core.Logic.{⊎_elim}
+use Prim.Native.Nat.{◌-◌, ◌*◌, ◌/◌, ◌≤◌}
+use native.Mathlib.Omega.{arith}
+use native.Mathlib.Nat.{sub-zero}
+use lib.ListN.{length}
+use Rattle.vec2.specs.Points.{points_in}
+use Rattle.vec2.proofs.Points.{length-points_in}
+use Rattle.turns.specs.Plane.{floats as plane}
+use Rattle.turns.specs.Walk.{junctions, judge, walked}
+use Rattle.turns.specs.declared.Tally.{Tally}
+use Rattle.turns.proofs.Walks.{read, ahead, counted_most, on_none, on_opposed, on_counted, on_end}
+use Rattle.polygon.proofs.walk.Given as goal
+
+abbrev pub invariant-loop-i : goal.invariant-loop-i
+invariant-loop-i l = (l.i ≤ l.n) × (l.n ≡ length l.fn.points / 2) × (l.t.left ≤ 3 * l.i) × (l.t.right ≤ 3 * l.i)
+    × (judge plane l.t (ahead plane (points_in l.fn.points) (length l.fn.points / 2) (length-points_in l.fn.points) l.i) ≡ walked plane (points_in l.fn.points))
+
+abbrev pub decreases-loop-i : goal.decreases-loop-i
+decreases-loop-i l = l.n - l.i

@@ -1,0 +1,24 @@
+use borrow.Author.Rules.{rules}
+use mathlib.Core.Path.{◌≡◌, refl, ◌∙◌}
+use Prim.Native.Nat.{◌-◌, ◌*◌, ◌≤◌}
+use native.Mathlib.Omega.{arith}
+use lib.ListN.{length}
+use lib.Seq.{sets}
+use Rattle.vec2.specs.Points.{flat}
+use Rattle.curve.specs.Count.{eval_cubic}
+use Rattle.polyline.proofs.Points.{inner, one_more, the_end}
+use Rattle.write.proofs.write_cubic.Goals as goal
+
+pub loop-k-init : goal.loop-k-init
+loop-k-init c = (omega arith, refl, refl)
+
+pub loop-k-preserved : goal.loop-k-preserved
+loop-k-preserved c =
+    let i = c.loop-k.invariant in (
+      omega arith,
+      c.put.auto.0 ∙ i.1,
+      one_more _ _ _ _ _ (eval_cubic _ _ _ _) _ i.2 _ c.eval_cubic-q.ensures c.put.ensures,
+    )
+
+pub returns : goal.returns
+returns c = the_end _ _ _ _ c.loop-k.k (eval_cubic _ _ _ _) _ c.loop-k.invariant.2 _ (omega arith) c.put-2.ensures
