@@ -1,38 +1,28 @@
 -- `bending::bend_into` meets its contract: 64 quads have room behind the opening, and there are no more. Assumes nothing.
-use lib.ListN.{length}
-use Prim.Native.Nat.{◌+◌}
-use Rattle.store.specs.Refusal.{Fits}
 use Rattle.store.proofs.Refusals.{refusal_fits, fits_fewer}
-use Rattle.drawing.specs.Lay.{lead}
 use Rattle.bending.proofs.Laws.{any_asked, bent_drawn}
 use mathlib.Core.Path.{refl, ◌∙◌}
 use native.Mathlib.Omega.{arith}
-use borrow.Author.Rules.{rules}
-use Rattle.bending.proofs.bend_into.Goals.{After-lead_of-l}
 use Rattle.bending.proofs.bend_into.Goals as goal
 
--- the opening and 64 quads have room
-spare : (c : After-lead_of-l) → let a = c.args in Fits a.v a.k (length a.verbs.now) (length a.points.now) (lead a.started + 64) (lead a.started + 128)
-spare c = refusal_fits _ _ _ _ _ _ _ c.requires
-
 pub overflow_add-at : goal.overflow_add-at
-overflow_add-at c = omega (arith, c.lead_of-l.ensures, (spare c).few_verbs)
+overflow_add-at c = omega (arith, c.lead_of-l.ensures, (refusal_fits _ _ _ _ _ _ _ c.requires).few_verbs)
 
 pub overflow_add-f : goal.overflow_add-f
-overflow_add-f c = omega (arith, c.lead_of-l.ensures, (spare c).few_points)
+overflow_add-f c = omega (arith, c.lead_of-l.ensures, (refusal_fits _ _ _ _ _ _ _ c.requires).few_points)
 
 pub overflow_mul-f : goal.overflow_mul-f
-overflow_mul-f c = omega (arith, c.lead_of-l.ensures, (spare c).few_points)
+overflow_mul-f c = omega (arith, c.lead_of-l.ensures, (refusal_fits _ _ _ _ _ _ _ c.requires).few_points)
 
 pub lay_opening-requires : goal.lay_opening-requires
-lay_opening-requires c = λ e. fits_fewer (omega arith) (omega arith) (spare c.before.before)
+lay_opening-requires c = λ e. fits_fewer (omega arith) (omega arith) (refusal_fits _ _ _ _ _ _ _ c.requires)
 
 pub push_conic-requires : goal.push_conic-requires
 push_conic-requires c =
-    let r = spare c.before.before.before.before.before.before.before.before.before in
+    let r = refusal_fits _ _ _ _ _ _ _ c.requires in
     let l = c.lead_of-l.ensures in
     let k = c.lay_opening.auto in
-    (omega (arith, l, r.verbs, k.1.1.0), omega (arith, l, r.points, k.1.1.1.1.0))
+    (omega (arith, l, r.verbs, k.verbs), omega (arith, l, r.points, k.points))
 
 pub returns : goal.returns
 returns c =

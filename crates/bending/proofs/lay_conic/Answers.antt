@@ -1,5 +1,4 @@
 -- `bending::lay_conic` meets its contract. Assumes nothing.
-use borrow.Author.Rules.{rules}
 use Rattle.bending.proofs.lay_conic.Goals as goal
 
 pub bend_into-quads-requires : goal.bend_into-quads-requires

@@ -3,7 +3,6 @@ use Rattle.drawing.proofs.Laws.{lead_few}
 use mathlib.Core.Path.{sym, ◌∙◌}
 use native.Mathlib.Omega.{arith}
 use borrow.Author.Tests.{eqb-true}
-use borrow.Author.Rules.{rules}
 use Rattle.bending.proofs.takes_any.Goals as goal
 
 pub overflow_add-l : goal.overflow_add-l
