@@ -1,17 +1,13 @@
 -- `next_other` meets its contract. The loop's invariant: what is left of the search gives what the whole one gives. Assumes nothing.
-use borrow.Author.Rules.{rules}
-use borrow.Author.Tests.{not-true, not-false}
 use mathlib.Core.Path.{◌≡◌, refl, sym, ap, ◌∙◌}
 use mathlib.Core.Bool.{true, false}
-use Prim.Native.Nat.{◌/◌, ◌<◌}
 use native.Mathlib.Omega.{arith}
-use lib.ListN.{length}
 use Rattle.vec2.specs.declared.Vec2.{Vec2}
 use Rattle.vec2.specs.Vec2.{same_as}
 use Rattle.vec2.specs.Points.{points_in}
 use Rattle.vec2.proofs.Points.{length-points_in}
 use Rattle.turns.specs.Plane.{floats as plane}
-use Rattle.turns.specs.Walk.{at, seek, next}
+use Rattle.turns.specs.Walk.{at, next}
 use Rattle.turns.proofs.Walks.{read, seek_stop, seek_pass, seek_end}
 use Rattle.polygon.proofs.next_other.Goals as goal
 
@@ -40,7 +36,7 @@ loop-left-preserved c =
     let fs = a.points.now in
     let found = read fs l.k _ l.invariant.0 q.point_at-p.ensures in
     let passed : same_as (at plane (points_in fs) l.k) a.b ≡ true =
-    ap (λ (p : Vec2). same_as p a.b) (sym found) ∙ sym q.same.ensures ∙ not-false _ q.if-not-same.false in (
+    ap (λ (p : Vec2). same_as p a.b) (sym found) ∙ sym q.same.ensures ∙ q.if-not-same.false in (
       c.around-k.ensures.1,
       refl,
       seek_pass plane (points_in fs) _ (length-points_in fs) a.b l.left l.k _ _ (omega arith) passed c.around-k.ensures.0 ∙ l.invariant.2,
