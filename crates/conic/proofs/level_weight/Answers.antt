@@ -1,6 +1,5 @@
 -- `conic::level_weight` meets its contract: a weight that is given is that of the halves, and so is the one that is kept. Assumes nothing.
 use Rattle.conic.proofs.Levels.{levels_first, kept_none, kept_one}
-use borrow.Author.Rules.{rules}
 use Rattle.conic.proofs.level_weight.Goals as goal
 
 pub returns-then-given : goal.returns-then-given

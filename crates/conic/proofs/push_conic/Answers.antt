@@ -1,7 +1,6 @@
 -- `conic::push_conic` meets its contract. Assumes nothing.
 use native.Mathlib.Omega.{arith}
 use Rattle.conic.proofs.Stores.{put_few, bent_of}
-use borrow.Author.Rules.{rules}
 use Rattle.conic.proofs.push_conic.Goals as goal
 
 pub put_verbs-requires : goal.put_verbs-requires

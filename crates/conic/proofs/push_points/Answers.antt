@@ -1,6 +1,5 @@
 -- `conic::push_points` meets its contract. Assumes nothing.
 use Rattle.conic.proofs.Stores.{put_whole}
-use borrow.Author.Rules.{rules}
 use Rattle.conic.proofs.push_points.Goals as goal
 
 pub returns : goal.returns

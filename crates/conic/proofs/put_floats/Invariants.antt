@@ -1,11 +1,8 @@
 -- `conic::put_floats` meets its contract: what is left of the floats, stored over the present ones, is the same at each turn. Assumes nothing.
-use mathlib.Core.Path.{◌≡◌, refl, sym, ◌∙◌}
+use mathlib.Core.Path.{◌≡◌}
 use Prim.Native.Nat.{◌+◌, ◌-◌, ◌≤◌}
-use native.Mathlib.Omega.{arith}
-use borrow.Author.Rules.{rules}
-use lib.ListN.{length, take, drop, length-set}
-use lib.Seq.{sets, length-take-le, get_or-take}
-use Rattle.conic.proofs.Stores.{store_first, store_on, store_done}
+use lib.ListN.{length, take, drop}
+use lib.Seq.{sets}
 use Rattle.conic.proofs.put_floats.Given as goal
 
 abbrev pub invariant-loop-i : goal.invariant-loop-i

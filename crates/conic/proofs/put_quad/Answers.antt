@@ -3,7 +3,6 @@ use mathlib.Core.Path.{refl, ◌∙◌}
 use native.Mathlib.Omega.{arith}
 use lib.ListN.{length-set}
 use Rattle.conic.proofs.Stores.{stored_four}
-use borrow.Author.Rules.{rules}
 use Rattle.conic.proofs.put_quad.Goals as goal
 
 pub bounds-floats-f-2 : goal.bounds-floats-f-2

@@ -1,10 +1,8 @@
 -- `conic::put_verbs` meets its contract: what is left of the verbs, stored over the present ones, is the same at each turn. Assumes nothing.
-use mathlib.Core.Path.{◌≡◌, refl, sym, ◌∙◌}
-use Prim.Native.Nat.{ℕ, ◌+◌, ◌-◌, ◌≤◌}
-use native.Mathlib.Omega.{arith}
-use lib.ListN.{length, replicate, drop, length-set, length-replicate, get_or-replicate}
+use mathlib.Core.Path.{◌≡◌}
+use Prim.Native.Nat.{◌+◌, ◌-◌, ◌≤◌}
+use lib.ListN.{length, replicate, drop}
 use lib.Seq.{sets}
-use Rattle.conic.proofs.Stores.{store_first, store_on, store_done}
 use Rattle.conic.proofs.put_verbs.Given as goal
 
 abbrev pub invariant-loop-i : goal.invariant-loop-i

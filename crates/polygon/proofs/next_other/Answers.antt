@@ -40,7 +40,7 @@ loop-left-preserved c =
     let fs = a.points.now in
     let found = read fs l.k _ l.invariant.0 q.point_at-p.ensures in
     let passed : same_as (at plane (points_in fs) l.k) a.b ≡ true =
-    ap (λ (p : Vec2). same_as p a.b) (sym found) ∙ sym q.same.ensures ∙ not-false _ q.if-not-same.false in (
+    ap (λ (p : Vec2). same_as p a.b) (sym found) ∙ sym q.same.ensures ∙ q.if-not-same.false in (
       c.around-k.ensures.1,
       refl,
       seek_pass plane (points_in fs) _ (length-points_in fs) a.b l.left l.k _ _ (omega arith) passed c.around-k.ensures.0 ∙ l.invariant.2,

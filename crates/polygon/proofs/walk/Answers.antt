@@ -13,6 +13,7 @@ use Rattle.turns.specs.Plane.{floats as plane}
 use Rattle.turns.specs.Walk.{junctions, judge, walked}
 use Rattle.turns.specs.declared.Tally.{Tally}
 use Rattle.turns.proofs.Walks.{read, ahead, counted_most, on_none, on_opposed, on_counted, on_end}
+use Rattle.polygon.proofs.walk.Goals.{then-not-same+else-opposes, else-not-same}
 use Rattle.polygon.proofs.walk.Goals as goal
 
 pub loop-i-init : goal.loop-i-init
@@ -43,7 +44,7 @@ returns-then-opposes c =
     let a = read fs _ _ h q.point_at-a.ensures in
     let b = read fs _ _ j.around-j.ensures.1 q.point_at-b.ensures in
     on_opposed plane (points_in fs) _ (length-points_in fs) l.t l.i _ h j.around-j.ensures.0 _ l.invariant.4 _ _ a b
-    (omega arith) (sym q.same.ensures ∙ not-true _ d.if-not-same.true)
+    (omega arith) (sym q.same.ensures ∙ d.if-not-same.true)
     _ d.around.ensures.0 _ e.next_other-k.ensures.0 _ (read fs _ _ e.next_other-k.ensures.1 e.point_at-c.ensures)
     _ c.turn_at-turned.ensures.0 (sym c.opposes.ensures ∙ c.if-opposes.true)
 
@@ -56,29 +57,29 @@ loop-i-preserved c =
     let fs = j.args.points.now in
     let a = read fs _ _ h q.point_at-a.ensures in
     let b = read fs _ _ j.around-j.ensures.1 q.point_at-b.ensures in
-    ⊎_elim
-    (λ w.
-    let u = w.8 ∙ w.7.ensures in
-    let most = counted_most l.t _ w.4.result u w.4.ensures.1 in (
-      omega arith,
-      refl,
-      omega (arith, most.0, l.invariant.2),
-      omega (arith, most.1, l.invariant.3),
-      on_counted plane (points_in fs) _ (length-points_in fs) l.t l.i _ h j.around-j.ensures.0 _ l.invariant.4 _ _ a b
-          (omega (arith, j.requires.0)) (sym q.same.ensures ∙ not-true _ w.0.taken)
-          _ w.1.ensures.0 _ w.2.ensures.0 _ (read fs _ _ w.2.ensures.1 w.3.ensures)
-          _ w.4.ensures.0 _ (sym w.5.ensures ∙ w.6.left) u,
-    ))
-    (λ w. (
-      omega arith,
-      refl,
-      omega (arith, ap (λ (t : Tally). t.left) w.1, l.invariant.2),
-      omega (arith, ap (λ (t : Tally). t.right) w.1, l.invariant.3),
-      rw w.1
-          (on_none plane (points_in fs) _ (length-points_in fs) l.t l.i _ h j.around-j.ensures.0 _ l.invariant.4 _ _ a b
-          (sym q.same.ensures ∙ not-false _ w.0.left)),
-    ))
-    c.if-not-same.branch
+    elim c.if-not-same.branch [
+      | then-not-same+else-opposes w ↦
+          let u = w.t-is ∙ w.count-t.ensures in
+          let most = counted_most l.t _ w.turn_at-turned.result u w.turn_at-turned.ensures.1 in (
+            omega arith,
+            refl,
+            omega (arith, most.0, l.invariant.2),
+            omega (arith, most.1, l.invariant.3),
+            on_counted plane (points_in fs) _ (length-points_in fs) l.t l.i _ h j.around-j.ensures.0 _ l.invariant.4 _ _ a b
+                (omega (arith, j.requires.0)) (sym q.same.ensures ∙ w.if-not-same.true)
+                _ w.around.ensures.0 _ w.next_other-k.ensures.0 _ (read fs _ _ w.next_other-k.ensures.1 w.point_at-c.ensures)
+                _ w.turn_at-turned.ensures.0 (sym w.opposes.ensures ∙ w.if-opposes.false) u,
+          )
+      | else-not-same w ↦ (
+            omega arith,
+            refl,
+            omega (arith, ap (λ (t : Tally). t.left) w.t-is, l.invariant.2),
+            omega (arith, ap (λ (t : Tally). t.right) w.t-is, l.invariant.3),
+            rw w.t-is
+                (on_none plane (points_in fs) _ (length-points_in fs) l.t l.i _ h j.around-j.ensures.0 _ l.invariant.4 _ _ a b
+                (sym q.same.ensures ∙ w.if-not-same.false)),
+          )
+    ]
 
 pub end-requires : goal.end-requires
 end-requires c = tt
