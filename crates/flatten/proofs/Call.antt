@@ -1,6 +1,5 @@
 -- The call: each way out gives what the definition gives. Assumes nothing.
 use mathlib.Core.Path.{◌≡◌, refl, sym, ◌∙◌}
-use mathlib.Core.Bool.{Bool, true, false, not, ◌||◌, cond}
 use mathlib.Core.List.{List}
 use Prim.Native.Nat.{ℕ, zero, suc, ◌+◌, ◌*◌, ◌/◌, ◌%◌, ◌≤◌, ◌<◌}
 use native.Mathlib.Omega.{arith}
@@ -9,9 +8,8 @@ use lib.ListN.{length}
 use lib.Seq.{sets}
 use lib.Ieee.{Float}
 use Rattle.vec2.specs.Points.{flat}
-use Rattle.vec2.proofs.Tests.{first_false}
 use Rattle.path.specs.Segment.{segments}
-use Rattle.path.specs.Check.{used_by, bad_path, any_over4, bad_first}
+use Rattle.path.specs.Check.{used_by, bad_path}
 use Rattle.polyline.specs.declared.Flattened.{Flattened}
 use Rattle.polyline.specs.declared.Tally.{Tally}
 use Rattle.polyline.specs.Flatten.{nowhere, points_out, ends_out, flat_refusal, outcome, refused_by, flatten}

@@ -1,4 +1,3 @@
-use borrow.Author.Rules.{rules}
 use Rattle.measure.proofs.add_close.Goals as goal
 
 pub returns : goal.returns

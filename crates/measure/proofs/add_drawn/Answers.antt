@@ -1,4 +1,3 @@
-use borrow.Author.Rules.{rules}
 use Rattle.measure.proofs.add_drawn.Goals as goal
 
 pub returns : goal.returns

@@ -1,27 +1,11 @@
-use mathlib.Core.Path.{◌≡◌, refl, sym, ◌∙◌, ap}
-use Prim.Native.Nat.{ℕ, ◌+◌, ◌-◌, ◌*◌, ◌≤◌}
+use mathlib.Core.Path.{refl, sym, ◌∙◌, ap}
+use Prim.Native.Nat.{ℕ}
 use native.Mathlib.Omega.{arith}
-use lib.ListN.{length, drop}
-use Rattle.path.specs.Segment.{segments}
-use Rattle.path.specs.Check.{used_by}
-use Rattle.polyline.specs.Flatten.{nowhere}
 use native.Mathlib.Nat.{zero-add}
 use mathlib.Core.List.{List}
-use Rattle.measure.specs.Measure.{Small, none, measured}
 use Rattle.measure.proofs.Measures.{small_next, measured_again, measured_none}
-use Rattle.path.proofs.Steps.{segments_left, used_turn, Stepped, stepped, ended}
-use borrow.Author.Rules.{rules}
-use Rattle.measure.proofs.measure.Goals.{In-Next, In_default}
+use Rattle.path.proofs.Steps.{used_turn, Stepped, stepped, ended}
 use Rattle.measure.proofs.measure.Goals as goal
-
--- the segment that a turn takes
-here : (c : In-Next) →
-    Stepped c.args.verbs.now c.args.points.now c.loop-s.c c.step.given.0.0 c.step.given.0.1.0
-here c = stepped _ _ _ _ _ _ c.next-step.ensures c.step.given.1
-
--- nothing is left
-over : (c : In_default) → length c.args.verbs.now ≤ c.loop-s.c.verb
-over c = ended _ c.args.points.now _ _ c.next-step.ensures c.enum_told.given.1 c.loop-s.invariant.1
 
 pub loop-s-init : goal.loop-s-init
 loop-s-init c = (omega arith, simp zero-add (omega arith), record { starts = omega arith; lines = omega arith; counts = omega arith; closings = omega arith; held = omega arith }, rw c.start_of_path.ensures)
@@ -31,7 +15,7 @@ returns-in_default c =
     let l = c.loop-s in
     let a = c.args in
     let h = l.invariant.2 in (
-      sym (measured_none a.verbs.now a.points.now l.c.verb l.c.point _ l.g.sum l.g.spot (over c.before)) ∙ l.invariant.3,
+      sym (measured_none a.verbs.now a.points.now l.c.verb l.c.point _ l.g.sum l.g.spot (ended _ a.points.now _ _ c.next-step.ensures c.in_default.is l.invariant.1)) ∙ l.invariant.3,
       record { starts = omega arith; lines = omega arith; counts = omega arith; closings = omega arith; held = omega arith },
     )
 
@@ -39,13 +23,13 @@ pub add_segment-g-requires : goal.add_segment-g-requires
 add_segment-g-requires c = let h = c.loop-s.invariant.2 in record { starts = omega arith; lines = omega arith; counts = omega arith; closings = omega arith; held = omega arith }
 
 pub loop-s-smaller : goal.loop-s-smaller
-loop-s-smaller c = let g = here c.before in rw g.cursor (omega (arith, g.inside))
+loop-s-smaller c = let g : Stepped c.args.verbs.now c.args.points.now c.loop-s.c c.in-Next.s c.in-Next.d = stepped _ _ _ _ _ _ c.next-step.ensures c.in-Next.is in rw g.cursor (omega (arith, g.inside))
 
 pub loop-s-preserved : goal.loop-s-preserved
 loop-s-preserved c =
     let l = c.loop-s in
     let vs : List ℕ = c.args.verbs.now in
-    let g = here c.before in
+    let g : Stepped c.args.verbs.now c.args.points.now c.loop-s.c c.in-Next.s c.in-Next.d = stepped _ _ _ _ _ _ c.next-step.ensures c.in-Next.is in
     let te = c.add_segment-g.ensures in
     rw g.cursor (
       omega (arith, g.inside),

@@ -1,16 +1,11 @@
-use mathlib.Core.Path.{◌≡◌, refl, sym, ◌∙◌, ap}
-use Prim.Native.Nat.{ℕ, ◌+◌, ◌-◌, ◌*◌, ◌≤◌}
-use native.Mathlib.Omega.{arith}
+use mathlib.Core.Path.{◌≡◌}
+use Prim.Native.Nat.{◌+◌, ◌-◌, ◌*◌, ◌≤◌}
 use lib.ListN.{length, drop}
 use Rattle.path.specs.Segment.{segments}
 use Rattle.path.specs.Check.{used_by}
 use Rattle.polyline.specs.Flatten.{nowhere}
-use native.Mathlib.Nat.{zero-add}
-use mathlib.Core.List.{List}
 use Rattle.measure.specs.Measure.{Small, none, measured}
-use Rattle.measure.proofs.Measures.{small_next, measured_again, measured_none}
-use Rattle.path.proofs.Steps.{segments_left, used_turn, Stepped, stepped, ended}
-use borrow.Author.Rules.{rules}
+use Rattle.path.proofs.Steps.{segments_left}
 use Rattle.measure.proofs.measure.Given as goal
 
 abbrev pub invariant-loop-s : goal.invariant-loop-s

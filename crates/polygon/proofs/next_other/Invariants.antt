@@ -1,18 +1,11 @@
 -- `next_other` meets its contract. The loop's invariant: what is left of the search gives what the whole one gives. Assumes nothing.
-use borrow.Author.Rules.{rules}
-use borrow.Author.Tests.{not-true, not-false}
-use mathlib.Core.Path.{◌≡◌, refl, sym, ap, ◌∙◌}
-use mathlib.Core.Bool.{true, false}
+use mathlib.Core.Path.{◌≡◌}
 use Prim.Native.Nat.{◌/◌, ◌<◌}
-use native.Mathlib.Omega.{arith}
 use lib.ListN.{length}
-use Rattle.vec2.specs.declared.Vec2.{Vec2}
 use Rattle.vec2.specs.Vec2.{same_as}
 use Rattle.vec2.specs.Points.{points_in}
-use Rattle.vec2.proofs.Points.{length-points_in}
 use Rattle.turns.specs.Plane.{floats as plane}
 use Rattle.turns.specs.Walk.{at, seek, next}
-use Rattle.turns.proofs.Walks.{read, seek_stop, seek_pass, seek_end}
 use Rattle.polygon.proofs.next_other.Given as goal
 
 abbrev pub invariant-loop-left : goal.invariant-loop-left

@@ -2,7 +2,6 @@
 use borrow.Author.Tests.{lt-ltb, le-ltb}
 use Rattle.vec2.proofs.Points.{length-points_in}
 use Rattle.turns.specs.Walk.{reason_of}
-use borrow.Author.Rules.{rules}
 use Rattle.polygon.proofs.polygon_reason.Goals as goal
 
 pub returns-then-points-lt3 : goal.returns-then-points-lt3

@@ -1,16 +1,11 @@
 -- `walk` meets its contract. The loop's invariant: judging the junctions that are left from the present tally gives what judging all gives. Assumes nothing.
-use borrow.Author.Rules.{rules}
-use borrow.Author.Tests.{not-true, not-false}
-use mathlib.Core.Path.{◌≡◌, refl, sym, ap, ◌∙◌}
-use mathlib.Core.Logic.{⊎_elim}
-use Prim.Native.Nat.{◌-◌, ◌*◌, ◌/◌, ◌≤◌}
+use mathlib.Core.Path.{refl, sym, ap, ◌∙◌}
 use native.Mathlib.Omega.{arith}
 use native.Mathlib.Nat.{sub-zero}
-use lib.ListN.{length}
 use Rattle.vec2.specs.Points.{points_in}
 use Rattle.vec2.proofs.Points.{length-points_in}
 use Rattle.turns.specs.Plane.{floats as plane}
-use Rattle.turns.specs.Walk.{junctions, judge, walked}
+use Rattle.turns.specs.Walk.{junctions, walked}
 use Rattle.turns.specs.declared.Tally.{Tally}
 use Rattle.turns.proofs.Walks.{read, ahead, counted_most, on_none, on_opposed, on_counted, on_end}
 use Rattle.polygon.proofs.walk.Goals.{then-not-same+else-opposes, else-not-same}
@@ -68,17 +63,17 @@ loop-i-preserved c =
             on_counted plane (points_in fs) _ (length-points_in fs) l.t l.i _ h j.around-j.ensures.0 _ l.invariant.4 _ _ a b
                 (omega (arith, j.requires.0)) (sym q.same.ensures ∙ w.if-not-same.true)
                 _ w.around.ensures.0 _ w.next_other-k.ensures.0 _ (read fs _ _ w.next_other-k.ensures.1 w.point_at-c.ensures)
-                _ w.turn_at-turned.ensures.0 (sym w.opposes.ensures ∙ w.if-opposes.false) u,
+                _ w.turn_at-turned.ensures.0 _ (sym w.opposes.ensures ∙ w.if-opposes.false) u,
           )
       | else-not-same w ↦ (
-            omega arith,
-            refl,
-            omega (arith, ap (λ (t : Tally). t.left) w.t-is, l.invariant.2),
-            omega (arith, ap (λ (t : Tally). t.right) w.t-is, l.invariant.3),
-            rw w.t-is
-                (on_none plane (points_in fs) _ (length-points_in fs) l.t l.i _ h j.around-j.ensures.0 _ l.invariant.4 _ _ a b
-                (sym q.same.ensures ∙ w.if-not-same.false)),
-          )
+        omega arith,
+        refl,
+        omega (arith, ap (λ (t : Tally). t.left) w.t-is, l.invariant.2),
+        omega (arith, ap (λ (t : Tally). t.right) w.t-is, l.invariant.3),
+        rw w.t-is
+            (on_none plane (points_in fs) _ (length-points_in fs) l.t l.i _ h j.around-j.ensures.0 _ l.invariant.4 _ _ a b
+            (sym q.same.ensures ∙ w.if-not-same.false)),
+      )
     ]
 
 pub end-requires : goal.end-requires

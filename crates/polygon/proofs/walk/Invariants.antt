@@ -1,18 +1,12 @@
 -- `walk` meets its contract. The loop's invariant: judging the junctions that are left from the present tally gives what judging all gives. Assumes nothing.
-use borrow.Author.Rules.{rules}
-use borrow.Author.Tests.{not-true, not-false}
-use mathlib.Core.Path.{◌≡◌, refl, sym, ap, ◌∙◌}
-use mathlib.Core.Logic.{⊎_elim}
+use mathlib.Core.Path.{◌≡◌}
 use Prim.Native.Nat.{◌-◌, ◌*◌, ◌/◌, ◌≤◌}
-use native.Mathlib.Omega.{arith}
-use native.Mathlib.Nat.{sub-zero}
 use lib.ListN.{length}
 use Rattle.vec2.specs.Points.{points_in}
 use Rattle.vec2.proofs.Points.{length-points_in}
 use Rattle.turns.specs.Plane.{floats as plane}
-use Rattle.turns.specs.Walk.{junctions, judge, walked}
-use Rattle.turns.specs.declared.Tally.{Tally}
-use Rattle.turns.proofs.Walks.{read, ahead, counted_most, on_none, on_opposed, on_counted, on_end}
+use Rattle.turns.specs.Walk.{judge, walked}
+use Rattle.turns.proofs.Walks.{ahead}
 use Rattle.polygon.proofs.walk.Given as goal
 
 abbrev pub invariant-loop-i : goal.invariant-loop-i

@@ -1,6 +1,5 @@
 use mathlib.Core.Path.{refl}
 use native.Mathlib.Omega.{arith}
-use borrow.Author.Rules.{rules}
 use Rattle.write.proofs.end_if.Goals as goal
 
 pub bounds-ends-k : goal.bounds-ends-k

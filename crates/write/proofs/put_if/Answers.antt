@@ -1,6 +1,5 @@
 use Rattle.write.proofs.Writes.{only_wanted, only_unwanted}
 use native.Mathlib.Omega.{arith}
-use borrow.Author.Rules.{rules}
 use Rattle.write.proofs.put_if.Goals as goal
 
 pub put-requires : goal.put-requires

@@ -1,12 +1,10 @@
-use borrow.Author.Rules.{rules}
-use mathlib.Core.Path.{◌≡◌, refl, ◌∙◌}
+use mathlib.Core.Path.{◌≡◌}
 use Prim.Native.Nat.{◌-◌, ◌*◌, ◌≤◌}
-use native.Mathlib.Omega.{arith}
 use lib.ListN.{length}
 use lib.Seq.{sets}
 use Rattle.vec2.specs.Points.{flat}
 use Rattle.curve.specs.Count.{eval_cubic}
-use Rattle.polyline.proofs.Points.{inner, one_more, the_end}
+use Rattle.polyline.proofs.Points.{inner}
 use Rattle.write.proofs.write_cubic.Given as goal
 
 abbrev pub invariant-loop-k : goal.invariant-loop-k

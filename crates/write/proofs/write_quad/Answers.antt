@@ -1,12 +1,7 @@
-use borrow.Author.Rules.{rules}
-use mathlib.Core.Path.{◌≡◌, refl, ◌∙◌}
-use Prim.Native.Nat.{◌-◌, ◌*◌, ◌≤◌}
+use mathlib.Core.Path.{refl, ◌∙◌}
 use native.Mathlib.Omega.{arith}
-use lib.ListN.{length}
-use lib.Seq.{sets}
-use Rattle.vec2.specs.Points.{flat}
 use Rattle.curve.specs.Count.{eval_quad}
-use Rattle.polyline.proofs.Points.{inner, one_more, the_end}
+use Rattle.polyline.proofs.Points.{one_more, the_end}
 use Rattle.write.proofs.write_quad.Goals as goal
 
 pub loop-k-init : goal.loop-k-init
@@ -16,7 +11,7 @@ pub loop-k-preserved : goal.loop-k-preserved
 loop-k-preserved c =
     let i = c.loop-k.invariant in (
       omega arith,
-      c.put.auto.0 ∙ i.1,
+      c.put.auto.out ∙ i.1,
       one_more _ _ _ _ _ (eval_quad _ _ _) _ i.2 _ c.eval_quad-q.ensures c.put.ensures,
     )
 

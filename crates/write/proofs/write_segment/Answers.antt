@@ -2,7 +2,6 @@ use mathlib.Core.Path.{refl, ap}
 use native.Mathlib.Omega.{arith}
 use lib.ListN.{length}
 use Rattle.write.proofs.Writes.{as_move, as_line, as_quad, as_cubic, as_close, to_move, to_line, to_quad, to_cubic, to_close}
-use borrow.Author.Rules.{rules}
 use Rattle.write.proofs.write_segment.Goals as goal
 
 pub draw_line-n-requires : goal.draw_line-n-requires
