@@ -1,5 +1,4 @@
 -- `inside` meets its contract. Assumes nothing.
-use borrow.Author.Rules.{rules}
 use Rattle.legs.proofs.inside.Goals as goal
 
 pub returns-then-p : goal.returns-then-p

@@ -1,10 +1,8 @@
 -- `keep_lengths` meets its contract. Assumes nothing.
-use mathlib.Core.Path.{◌≡◌, refl, sym, ◌∙◌, ap}
-use Prim.Native.Nat.{ℕ, ◌-◌, ◌≤◌}
+use mathlib.Core.Path.{refl, ◌∙◌}
 use native.Mathlib.Omega.{arith}
-use borrow.Author.Rules.{rules}
-use lib.ListN.{length, length-set}
-use Rattle.strokes.proofs.Lengths.{Below, length_is, keep_more, keep_end, keep_full}
+use lib.ListN.{length-set}
+use Rattle.strokes.proofs.Lengths.{length_is, keep_more, keep_end, keep_full}
 use Rattle.legs.proofs.keep_lengths.Goals as goal
 
 pub loop-k-init : goal.loop-k-init
@@ -17,7 +15,7 @@ pub loop-k-preserved : goal.loop-k-preserved
 loop-k-preserved c =
     let l = c.loop-k in
     let e = length_is c.args.points.now l.k _ _ _ _ c.point_at-a.ensures c.point_at-b.ensures c.sub.ensures c.length.ensures in
-    (keep_more l.auto _ l.k _ c.loop-k-test.true e l.invariant.0, length-set l.auto _ _ ∙ l.invariant.1)
+    (keep_more l.kept _ l.k _ c.loop-k-test.true e l.invariant.0, length-set l.kept _ _ ∙ l.invariant.1)
 
 pub returns : goal.returns
 returns c = keep_full _ _ _ c.loop-k-test.false c.loop-k.invariant.0

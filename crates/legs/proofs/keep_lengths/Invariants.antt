@@ -1,10 +1,8 @@
 -- `keep_lengths` meets its contract. Assumes nothing.
-use mathlib.Core.Path.{◌≡◌, refl, sym, ◌∙◌, ap}
-use Prim.Native.Nat.{ℕ, ◌-◌, ◌≤◌}
-use native.Mathlib.Omega.{arith}
-use borrow.Author.Rules.{rules}
-use lib.ListN.{length, length-set}
-use Rattle.strokes.proofs.Lengths.{Below, length_is, keep_more, keep_end, keep_full}
+use mathlib.Core.Path.{◌≡◌}
+use Prim.Native.Nat.{◌-◌}
+use lib.ListN.{length}
+use Rattle.strokes.proofs.Lengths.{Below}
 use Rattle.legs.proofs.keep_lengths.Given as goal
 
 abbrev pub invariant-loop-k : goal.invariant-loop-k

@@ -4,7 +4,6 @@ use lib.Ieee.{Float}
 use Rattle.vec2.specs.declared.Vec2.{Vec2}
 use Rattle.vec2.specs.Vec2.{◌⊖◌, len}
 use Rattle.events.specs.Walk.{leg_of}
-use borrow.Author.Rules.{rules}
 use Rattle.legs.proofs.leg_of.Goals as goal
 
 leg_is : (a b w : Vec2) (l : Float) → w ≡ b ⊖ a → l ≡ len w → record { from = a; way = w; to = b; length = l } ≡ leg_of a b

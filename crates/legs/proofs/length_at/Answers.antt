@@ -1,5 +1,4 @@
 -- `length_at` meets its contract. Assumes nothing.
-use borrow.Author.Rules.{rules}
 use Rattle.legs.proofs.length_at.Goals as goal
 
 pub returns-then-k-lengths : goal.returns-then-k-lengths

@@ -1,5 +1,4 @@
 -- `point_on` meets its contract. Assumes nothing.
-use borrow.Author.Rules.{rules}
 use Rattle.legs.proofs.point_on.Goals as goal
 
 pub returns : goal.returns

@@ -1,0 +1,17 @@
+-- `replay::play_moves` meets its contract. Assumes nothing.
+use mathlib.Core.Path.{ap}
+use Prim.Native.Nat.{◌-◌}
+use native.Mathlib.Omega.{arith}
+use lib.ListN.{length}
+use Rattle.builder.specs.declared.Call.TheVariants.{MoveTo}
+use Rattle.replay.specs.declared.Run.{Run}
+use Rattle.replay.specs.Run.{Along}
+use Rattle.replay.proofs.Runs.{begins, turned, run_over}
+use borrow.Author.Rules.{rules}
+use Rattle.replay.proofs.play_moves.Given as goal
+
+abbrev pub invariant-loop-p : goal.invariant-loop-p
+invariant-loop-p l = Along l.fn.kinds l.fn.numbers l.initial.q l.initial.verbs l.initial.points l.q l.verbs l.points
+
+abbrev pub decreases-loop-p : goal.decreases-loop-p
+decreases-loop-p l = length l.fn.kinds - l.q.calls

@@ -1,0 +1,7 @@
+-- `replay::point_at` meets its contract. Assumes nothing.
+use Rattle.replay.proofs.Places.{point_behind}
+use borrow.Author.Rules.{rules}
+use Rattle.replay.proofs.point_at.Goals as goal
+
+pub returns : goal.returns
+returns c = let a = c.args in point_behind a.numbers.now a.at a.j

@@ -1,0 +1,17 @@
+-- `replay::replay` meets its contract: what is left behind each run makes of the present what the whole list makes of a fresh builder. Assumes nothing.
+use mathlib.Core.Path.{refl}
+use mathlib.Core.Logic.{⊎_elim}
+use Prim.Native.Nat.{◌-◌}
+use native.Mathlib.Omega.{arith}
+use lib.ListN.{length}
+use Rattle.replay.specs.Run.{Along}
+use Rattle.replay.proofs.Places.{no_kind}
+use Rattle.replay.proofs.Runs.{Over, stays, onward, over, over_as}
+use borrow.Author.Rules.{rules}
+use Rattle.replay.proofs.replay.Given as goal
+
+abbrev pub invariant-loop-r : goal.invariant-loop-r
+invariant-loop-r l = Along l.fn.kinds l.fn.numbers l.initial.r l.initial.verbs l.initial.points l.r l.verbs l.points
+
+abbrev pub decreases-loop-r : goal.decreases-loop-r
+decreases-loop-r l = length l.fn.kinds - l.r.calls
