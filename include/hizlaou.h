@@ -1,6 +1,6 @@
 /* Hizlaou: outlines, polylines and dashes. The C interface of the proved library.
  *
- *   rt staticlib capi                    proves the library and writes target/staticlib/libcapi.a
+ *   tools/library                         proves the library and writes target/staticlib/libcapi.a
  *   cc prog.c target/staticlib/libcapi.a -lm
  *
  * Every call ends on every input, NaN and infinities included, keeps no memory and no state of its own, and may be called from any thread.

@@ -1,4 +1,4 @@
-//! Links ../target/staticlib/libcapi.a, which `rt staticlib capi` proves and writes; HIZLAOU_LIB names another folder.
+//! Links ../target/staticlib/libcapi.a, which `tools/library` proves and writes; HIZLAOU_LIB names another folder.
 use std::env;
 use std::path::PathBuf;
 
@@ -10,7 +10,7 @@ fn main() {
     println!("cargo:rerun-if-changed={}", library.display());
     if !library.exists() {
         println!(
-            "cargo:warning={} is not there: run `rt staticlib capi` at the root of the repository, or name its folder in HIZLAOU_LIB",
+            "cargo:warning={} is not there: run `tools/library` at the root of the repository, or name its folder in HIZLAOU_LIB",
             library.display()
         );
     }

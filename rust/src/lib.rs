@@ -7,7 +7,7 @@
 //! no floating-point exception traps, as Rust itself takes for granted. C code in the same thread may have changed that: set it back before a call. Under
 //! any other rounding, or with subnormals flushed, an answer may be wrong; but each call ends, and the library writes outside no buffer.
 //!
-//! It links `target/staticlib/libcapi.a`, which `rt staticlib capi` makes.
+//! It links `target/staticlib/libcapi.a`, which `tools/library` makes.
 //!
 //! ```
 //! # fn main() -> Result<(), hizlaou::Refusal> {

@@ -1,7 +1,7 @@
 //! The root beside the machine's instruction: first equal on every `step`-th pattern and on all near the edges, then timed, both called through a
 //! pointer in one run. Whole squares are timed apart, since nothing proved guards the first guess.
 //!
-//! `rt staticlib capi && cargo run --release --manifest-path bench/Cargo.toml --bin root [step]`
+//! `tools/library && cargo run --release --manifest-path bench/Cargo.toml --bin root [step]`
 use hizlaou::ffi::hz_sqrt;
 use std::hint::black_box;
 use std::time::Instant;
