@@ -12,9 +12,20 @@ ghost use Rattle.std.specs.Prelude.{◌≤◌};
 use builder::{CurrentPoint, Note, PathBuilder, Reply};
 use path::FillRule;
 use rect::Rect;
+use std::io;
+use std::io::{BufReader, ErrorKind, Read};
 use vec2::Vec2;
 
 // ---- reading
+
+// Fills `text` from the input, and answers whether the input had as much.
+fn read_full(input: &mut impl Read, text: &mut [u8]) -> io::Result<bool> {
+    match input.read_exact(text) {
+        Ok(()) => Ok(true),
+        Err(e) if e.kind() == ErrorKind::UnexpectedEof => Ok(false),
+        Err(e) => Err(e),
+    }
+}
 
 fn char_at(line: &[u8], i: usize) -> u8 {
     if i < line.len() {
@@ -80,145 +91,148 @@ fn point_at(line: &[u8], i: usize) -> Vec2
 
 // ---- writing
 
-fn word(w: &[u8]) {
-    io::write_all(1, w);
+fn word(rt: &impl Print, w: &[u8]) -> io::Result<()> {
+    rt.write_all(w)
 }
 
-fn number(n: usize) {
-    io::write_all(1, b" ");
-    io::print_decimal(1, n as u64);
+fn number(rt: &impl Print, n: usize) -> io::Result<()> {
+    word(rt, b" ")?;
+    print!(rt; "{n}")
 }
 
 // A whole number under 100, `nan`, or a dash.
-fn float(x: f32) {
+fn float(rt: &impl Print, x: f32) -> io::Result<()> {
     if x != x {
-        word(b" nan");
-        return;
+        return word(rt, b" nan");
     }
     let mut i = 0u16;
     while i < 100 {
         if i as f32 == x {
-            number(i as usize);
-            return;
+            return number(rt, i as usize);
         }
         i += 1;
     }
-    word(b" -");
+    word(rt, b" -")
 }
 
-fn flag(b: bool) {
-    if b { word(b" yes") } else { word(b" no") }
+fn flag(rt: &impl Print, b: bool) -> io::Result<()> {
+    if b {
+        word(rt, b" yes")
+    } else {
+        word(rt, b" no")
+    }
 }
 
-fn state(b: PathBuilder) {
-    word(b" verbs");
-    number(b.verbs);
-    word(b" points");
-    number(b.points);
-    word(b" started");
-    flag(b.started);
-    word(b" start");
-    float(b.start_x);
-    float(b.start_y);
-    word(b" pen");
-    float(b.pen_x);
-    float(b.pen_y);
-    word(b"\n");
+fn state(rt: &impl Print, b: PathBuilder) -> io::Result<()> {
+    word(rt, b" verbs")?;
+    number(rt, b.verbs)?;
+    word(rt, b" points")?;
+    number(rt, b.points)?;
+    word(rt, b" started")?;
+    flag(rt, b.started)?;
+    word(rt, b" start")?;
+    float(rt, b.start_x)?;
+    float(rt, b.start_y)?;
+    word(rt, b" pen")?;
+    float(rt, b.pen_x)?;
+    float(rt, b.pen_y)?;
+    word(rt, b"\n")
 }
 
 // The name of a line.
-fn name(line: &[u8]) {
+fn name(rt: &impl Print, line: &[u8]) -> io::Result<()> {
     let mut i: usize = 0;
     while i < line.len() {
         let c = line[i];
         if c == b':' {
-            return;
+            return Ok(());
         }
         let one = [c; 1];
-        word(&one);
+        word(rt, &one)?;
         i += 1;
     }
+    Ok(())
 }
 
 // Nothing of a line without a name.
-fn show(line: &[u8], r: Reply) {
+fn show(rt: &impl Print, line: &[u8], r: Reply) -> io::Result<()> {
     if char_at(line, 0) == b' ' {
-        return;
+        return Ok(());
     }
     let b = r.state;
-    name(line);
-    word(b": refused");
-    number(r.refused as usize);
-    word(b" quads");
-    number(r.quads);
-    state(b);
+    name(rt, line)?;
+    word(rt, b": refused")?;
+    number(rt, r.refused as usize)?;
+    word(rt, b" quads")?;
+    number(rt, r.quads)?;
+    state(rt, b)
 }
 
-fn byte(v: u8) {
-    number(v as usize);
+fn byte(rt: &impl Print, v: u8) -> io::Result<()> {
+    number(rt, v as usize)
 }
 
 // The bytes from the place `start` on.
-fn bytes(verbs: &[u8], start: usize) {
-    word(b"  verbs");
+fn bytes(rt: &impl Print, verbs: &[u8], start: usize) -> io::Result<()> {
+    word(rt, b"  verbs")?;
     let mut i = start;
     while i < verbs.len() {
-        byte(verbs[i]);
+        byte(rt, verbs[i])?;
         i += 1;
     }
-    word(b"\n");
+    word(rt, b"\n")
 }
 
-fn floats(points: &[f32], start: usize) {
-    word(b"  floats");
+fn floats(rt: &impl Print, points: &[f32], start: usize) -> io::Result<()> {
+    word(rt, b"  floats")?;
     let mut i = start;
     while i < points.len() {
-        float(points[i]);
+        float(rt, points[i])?;
         i += 1;
     }
-    word(b"\n");
+    word(rt, b"\n")
 }
 
 // Byte 1 and float 5 of the buffers.
-fn sample(verbs: &[u8], points: &[f32]) {
-    word(b"  byte 1");
-    byte(char_at(verbs, 1));
-    word(b" float 5");
+fn sample(rt: &impl Print, verbs: &[u8], points: &[f32]) -> io::Result<()> {
+    word(rt, b"  byte 1")?;
+    byte(rt, char_at(verbs, 1))?;
+    word(rt, b" float 5")?;
     if 5 < points.len() {
-        float(points[5]);
+        float(rt, points[5])?;
     }
-    word(b"\n");
+    word(rt, b"\n")
 }
 
-fn point(b: PathBuilder) {
+fn point(rt: &impl Print, b: PathBuilder) -> io::Result<()> {
     match b.current_point() {
         CurrentPoint::At(x, y) => {
-            word(b"current point");
-            float(x);
-            float(y);
+            word(rt, b"current point")?;
+            float(rt, x)?;
+            float(rt, y)?;
         }
-        CurrentPoint::Nowhere => word(b"no current point"),
+        CurrentPoint::Nowhere => word(rt, b"no current point")?,
     }
-    word(b"\n");
+    word(rt, b"\n")
 }
 
-fn note(b: PathBuilder) {
+fn note(rt: &impl Print, b: PathBuilder) -> io::Result<()> {
     match b.rounded_rect() {
         Note::Rounded(r, radius) => {
-            word(b"rounded rectangle");
-            float(r.min.x);
-            float(r.min.y);
-            float(r.max.x);
-            float(r.max.y);
-            word(b" radius");
-            float(radius);
+            word(rt, b"rounded rectangle")?;
+            float(rt, r.min.x)?;
+            float(rt, r.min.y)?;
+            float(rt, r.max.x)?;
+            float(rt, r.max.y)?;
+            word(rt, b" radius")?;
+            float(rt, radius)?;
             if 1.0 / radius < 0.0 {
-                word(b" below 0");
+                word(rt, b" below 0")?;
             }
         }
-        Note::Unknown => word(b"no rounded rectangle"),
+        Note::Unknown => word(rt, b"no rounded rectangle")?,
     }
-    word(b"\n");
+    word(rt, b"\n")
 }
 
 // ---- a line
@@ -266,76 +280,114 @@ fn set(b: PathBuilder, line: &[u8]) -> PathBuilder {
 }
 
 // What a line that is no call asks for.
-fn ask(b: PathBuilder, line: &[u8], verbs: &[u8], points: &[f32]) {
+fn ask(
+    rt: &impl Print,
+    b: PathBuilder,
+    line: &[u8],
+    verbs: &[u8],
+    points: &[f32],
+) -> io::Result<()> {
     match char_at(line, 39) {
-        b'P' => point(b),
-        b'T' => note(b),
+        b'P' => point(rt, b),
+        b'T' => note(rt, b),
         b'S' => {
-            bytes(verbs, whole(line, 40));
-            floats(points, whole(line, 47));
+            bytes(rt, verbs, whole(line, 40))?;
+            floats(rt, points, whole(line, 47))
         }
-        b'Y' => sample(verbs, points),
-        _ => {}
+        b'Y' => sample(rt, verbs, points),
+        _ => Ok(()),
     }
 }
 
-fn step(b: PathBuilder, line: &[u8], verbs: &mut [u8], points: &mut [f32]) -> PathBuilder {
+fn step(
+    rt: &impl Print,
+    b: PathBuilder,
+    line: &[u8],
+    verbs: &mut [u8],
+    points: &mut [f32],
+) -> io::Result<PathBuilder> {
     if char_at(line, 39) < b'a' {
-        ask(b, line, verbs, points);
-        return set(b, line);
+        ask(rt, b, line, verbs, points)?;
+        return Ok(set(b, line));
     }
     let r = play(b, line, verbs, points);
-    show(line, r);
-    r.state
+    show(rt, line, r)?;
+    Ok(r.state)
 }
 
 // The next n lines, on a fresh builder.
-fn scene(n: usize, verbs: &mut [u8], points: &mut [f32]) {
+fn scene(
+    rt: &impl Print,
+    input: &mut impl Read,
+    n: usize,
+    verbs: &mut [u8],
+    points: &mut [f32],
+) -> io::Result<()> {
     let mut line = [0u8; 83];
     let mut b = PathBuilder::new();
     let mut i: usize = 0;
     while i < n {
-        io::read_full(0, &mut line);
-        b = step(b, &line, verbs, points);
+        read_full(input, &mut line)?;
+        b = step(rt, b, &line, verbs, points)?;
         i += 1;
     }
+    Ok(())
 }
 
 // The lines of one pair of lent buffers.
-fn lend(line: &[u8], verbs: &mut [u8], points: &mut [f32]) {
+fn lend(
+    rt: &impl Print,
+    input: &mut impl Read,
+    line: &[u8],
+    verbs: &mut [u8],
+    points: &mut [f32],
+) -> io::Result<()> {
     let a = whole(line, 40);
     let b = whole(line, 47);
     let c = whole(line, 54);
     let d = whole(line, 61);
     if verbs.len() < b {
-        return;
+        return Ok(());
     }
     if points.len() < d {
-        return;
+        return Ok(());
     }
     if b < a {
-        return;
+        return Ok(());
     }
     if d < c {
-        return;
+        return Ok(());
     }
-    scene(whole(line, 68), &mut verbs[a..b], &mut points[c..d]);
+    scene(
+        rt,
+        input,
+        whole(line, 68),
+        &mut verbs[a..b],
+        &mut points[c..d],
+    )
 }
 
-fn run(verbs: &mut [u8], points: &mut [f32]) {
+fn run(
+    rt: &impl Print,
+    input: &mut impl Read,
+    verbs: &mut [u8],
+    points: &mut [f32],
+) -> io::Result<()> {
     let mut line = [0u8; 83];
     let mut i: usize = 0;
     while i < 100 {
-        if io::read_full(0, &mut line) != 83 {
-            return;
+        if !read_full(input, &mut line)? {
+            return Ok(());
         }
-        lend(&line, verbs, points);
+        lend(rt, input, &line, verbs, points)?;
         i += 1;
     }
+    Ok(())
 }
 
-fn main() {
+fn main(rt: HostRuntime) -> io::Result<()> {
+    let mut input = BufReader::new(rt.alloc(), rt.reader())?;
     let mut verbs = [9u8; 65538];
     let mut points = [7.0f32; 262148];
-    run(&mut verbs, &mut points);
+    run(&rt, &mut input, &mut verbs, &mut points)
 }

@@ -1,5 +1,5 @@
 -- Demand 3, whole: what the builder's, the flattening's and the dashing's own theorems say together of a list of calls. Assumes nothing.
-use mathlib.Core.Path.{◌≡◌, refl, ap, subst, ◌∙◌}
+use mathlib.Core.Path.{refl, ap, subst, ◌∙◌}
 use mathlib.Core.List.{List}
 use Rattle.path.specs.declared.Segment.{Segment}
 use Rattle.builder.specs.Laid.{path_verbs, path_floats}

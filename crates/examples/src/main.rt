@@ -4,10 +4,11 @@
 use builder::PathBuilder;
 use outline::Dashed;
 use path::{Cursor, FillRule, Segment, Step};
+use std::io;
 use vec2::Vec2;
 
-fn say(text: &[u8]) {
-    io::write_all(1, text);
+fn say(rt: &impl Print, text: &[u8]) -> io::Result<()> {
+    rt.write_all(text)
 }
 
 // The whole number below 200 that x is; 200 for any other.
@@ -23,66 +24,67 @@ fn whole(x: f32) -> u16 {
 }
 
 // A number of whole or of eighths; a question mark for any other.
-fn print_number(x: f32) {
+fn print_number(rt: &impl Print, x: f32) -> io::Result<()> {
     let n = whole(x);
     let eighths = whole(x * 8.0);
     if n < 200 {
-        io::print_decimal(1, n as u64);
-        return;
+        return print!(rt; "{n}");
     }
     if eighths < 200 {
-        io::print_decimal(1, eighths as u64);
-        say(b"/8");
-        return;
+        print!(rt; "{eighths}")?;
+        return say(rt, b"/8");
     }
-    say(b"?");
+    say(rt, b"?")
 }
 
-fn print_point(what: &[u8], p: Vec2) {
-    say(what);
-    print_number(p.x);
-    say(b",");
-    print_number(p.y);
-    say(b")");
+fn print_point(rt: &impl Print, what: &[u8], p: Vec2) -> io::Result<()> {
+    say(rt, what)?;
+    print_number(rt, p.x)?;
+    say(rt, b",")?;
+    print_number(rt, p.y)?;
+    say(rt, b")")
 }
 
-fn print_segment(s: Segment) {
+fn print_segment(rt: &impl Print, s: Segment) -> io::Result<()> {
     match s {
-        Segment::Move(p) => print_point(b" move (", p),
-        Segment::Line(p) => print_point(b" line (", p),
-        Segment::Quad(_, p) => print_point(b" quad (", p),
-        Segment::Cubic(_, _, p) => print_point(b" cubic (", p),
-        Segment::Close => say(b" close"),
+        Segment::Move(p) => print_point(rt, b" move (", p),
+        Segment::Line(p) => print_point(rt, b" line (", p),
+        Segment::Quad(_, p) => print_point(rt, b" quad (", p),
+        Segment::Cubic(_, _, p) => print_point(rt, b" cubic (", p),
+        Segment::Close => say(rt, b" close"),
     }
 }
 
-fn print_path(verbs: &[u8], points: &[f32]) {
+fn print_path(rt: &impl Print, verbs: &[u8], points: &[f32]) -> io::Result<()> {
     let mut c = Cursor { verb: 0, point: 0 };
     loop {
         let step = cursor::next(verbs, points, c);
         let Step::Next(s, d) = step else {
-            say(b"\n");
-            return;
+            return say(rt, b"\n");
         };
-        print_segment(s);
+        print_segment(rt, s)?;
         c = d;
     }
 }
 
 // The filled part of the dash buffers.
-fn print_cut(verbs: &[u8], points: &[f32], v: usize, p: usize) {
+fn print_cut(rt: &impl Print, verbs: &[u8], points: &[f32], v: usize, p: usize) -> io::Result<()> {
     if v <= verbs.len() {
         if p <= points.len() / 2 {
             let n = 2 * p;
-            print_path(&verbs[..v], &points[..n]);
-            return;
+            return print_path(rt, &verbs[..v], &points[..n]);
         }
     }
-    say(b" NO\n");
+    say(rt, b" NO\n")
 }
 
 // Cuts a path at tolerance 0.25 and phase 0, and prints what is drawn.
-fn print_dashed(verbs: &[u8], points: &[f32], intervals: &[f32]) {
+fn print_dashed(
+    rt: &impl Print,
+    verbs: &[u8],
+    points: &[f32],
+    intervals: &[f32],
+) -> io::Result<()> {
     let mut scratch = [0.0f32; 64];
     let mut ends = [0usize; 8];
     let mut marks = [0u8; 8];
@@ -102,41 +104,59 @@ fn print_dashed(verbs: &[u8], points: &[f32], intervals: &[f32]) {
         &mut dash_points,
     );
     match answer {
-        Dashed::Whole => say(b" Whole\n"),
+        Dashed::Whole => say(rt, b" Whole\n"),
         Dashed::Cut(o) => {
-            say(b" Cut:");
-            print_cut(&dash_verbs, &dash_points, o.verbs, o.points);
+            say(rt, b" Cut:")?;
+            print_cut(rt, &dash_verbs, &dash_points, o.verbs, o.points)
         }
         Dashed::Refused(n) => {
-            say(b" refused ");
-            io::print_decimal(1, n as u64);
-            say(b"\n");
+            say(rt, b" refused ")?;
+            print!(rt; "{n}")?;
+            say(rt, b"\n")
         }
     }
 }
 
 // The filled part of the builder's buffers, cut.
-fn print_built(verbs: &[u8], points: &[f32], v: usize, p: usize, intervals: &[f32]) {
+fn print_built(
+    rt: &impl Print,
+    verbs: &[u8],
+    points: &[f32],
+    v: usize,
+    p: usize,
+    intervals: &[f32],
+) -> io::Result<()> {
     if v <= verbs.len() {
         if p <= points.len() / 2 {
             let n = 2 * p;
-            print_dashed(&verbs[..v], &points[..n], intervals);
-            return;
+            return print_dashed(rt, &verbs[..v], &points[..n], intervals);
         }
     }
-    say(b" NO\n");
+    say(rt, b" NO\n")
 }
 
 // Plays an encoded list of calls on a fresh builder, and cuts the path that it leaves.
-fn print_played(kinds: &[u8], numbers: &[f32], intervals: &[f32]) {
+fn print_played(
+    rt: &impl Print,
+    kinds: &[u8],
+    numbers: &[f32],
+    intervals: &[f32],
+) -> io::Result<()> {
     let mut verbs = [0u8; 16];
     let mut points = [0.0f32; 32];
     let r = replay::replay(kinds, numbers, &mut verbs, &mut points);
-    print_built(&verbs, &points, r.state.verbs, r.state.points, intervals);
+    print_built(
+        rt,
+        &verbs,
+        &points,
+        r.state.verbs,
+        r.state.points,
+        intervals,
+    )
 }
 
 // Move to NaN, conic weight 100.
-fn print_conic() {
+fn print_conic(rt: &impl Print) -> io::Result<()> {
     let nan = 0.0 / 0.0;
     let mut verbs = [0u8; 70];
     let mut points = [0.0f32; 300];
@@ -150,31 +170,34 @@ fn print_conic() {
         Vec2 { x: 2.0, y: 0.0 },
         100.0,
     );
-    say(b"move to NaN, conic weight 100: ");
-    io::print_decimal(1, r.quads as u64);
-    say(b" quads\n");
+    say(rt, b"move to NaN, conic weight 100: ")?;
+    print!(rt; "{}", r.quads)?;
+    say(rt, b" quads\n")
 }
 
-fn print_verdict(what: &[u8], points: &[f32]) {
-    say(what);
+fn print_verdict(rt: &impl Print, what: &[u8], points: &[f32]) -> io::Result<()> {
+    say(rt, what)?;
     let v = convexity::polygon_convexity(points);
     let c = v.convexity;
     match c {
-        turns::Convexity::Convex => say(b": Convex\n"),
-        turns::Convexity::Concave => say(b": Concave\n"),
+        turns::Convexity::Convex => say(rt, b": Convex\n"),
+        turns::Convexity::Concave => say(rt, b": Concave\n"),
     }
 }
 
-fn print_polygons() {
+fn print_polygons(rt: &impl Print) -> io::Result<()> {
     print_verdict(
+        rt,
         b"(50,70) (0,70) (0,0) (40,70) (40,70)",
         &[50.0, 70.0, 0.0, 70.0, 0.0, 0.0, 40.0, 70.0, 40.0, 70.0],
-    );
+    )?;
     print_verdict(
+        rt,
         b"(0,0) (4,0) (1,1) (0,4)",
         &[0.0, 0.0, 4.0, 0.0, 1.0, 1.0, 0.0, 4.0],
-    );
+    )?;
     print_verdict(
+        rt,
         b"the same times 2^-15",
         &[
             0.0,
@@ -186,18 +209,18 @@ fn print_polygons() {
             0.0,
             0.00012207031,
         ],
-    );
+    )
 }
 
-fn main() {
-    say(b"line (0,0)-(8,0), pattern 0 5:");
-    print_played(&[0, 1], &[0.0, 0.0, 8.0, 0.0], &[0.0, 5.0]);
-    say(b"the same without its move, pattern 0 5:");
-    print_played(&[1], &[8.0, 0.0], &[0.0, 5.0]);
-    say(b"line (0,0)-(8,0), intervals 0.125 0.125:");
-    print_played(&[0, 1], &[0.0, 0.0, 8.0, 0.0], &[0.125, 0.125]);
-    say(b"line (0,0)-(1,0), intervals 0.125 0.25:");
-    print_played(&[0, 1], &[0.0, 0.0, 1.0, 0.0], &[0.125, 0.25]);
-    print_conic();
-    print_polygons();
+fn main(rt: HostRuntime) -> io::Result<()> {
+    say(&rt, b"line (0,0)-(8,0), pattern 0 5:")?;
+    print_played(&rt, &[0, 1], &[0.0, 0.0, 8.0, 0.0], &[0.0, 5.0])?;
+    say(&rt, b"the same without its move, pattern 0 5:")?;
+    print_played(&rt, &[1], &[8.0, 0.0], &[0.0, 5.0])?;
+    say(&rt, b"line (0,0)-(8,0), intervals 0.125 0.125:")?;
+    print_played(&rt, &[0, 1], &[0.0, 0.0, 8.0, 0.0], &[0.125, 0.125])?;
+    say(&rt, b"line (0,0)-(1,0), intervals 0.125 0.25:")?;
+    print_played(&rt, &[0, 1], &[0.0, 0.0, 1.0, 0.0], &[0.125, 0.25])?;
+    print_conic(&rt)?;
+    print_polygons(&rt)
 }

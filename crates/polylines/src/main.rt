@@ -4,16 +4,17 @@
 ghost use Rattle.std.specs.Prelude.{◌≤◌};
 
 use polyline::Flattened;
+use std::io;
 use vec2::Vec2;
 
-fn say(ok: bool, name: &[u8]) {
+fn say(rt: &impl Print, ok: bool, name: &[u8]) -> io::Result<()> {
     if ok {
-        io::write_all(1, b"ok ");
+        rt.write_all(b"ok ")?;
     } else {
-        io::write_all(1, b"NO ");
+        rt.write_all(b"NO ")?;
     }
-    io::write_all(1, name);
-    io::write_all(1, b"\n");
+    rt.write_all(name)?;
+    rt.write_all(b"\n")
 }
 
 // Whether the floats are equal as numbers; a NaN stands for any NaN.
@@ -540,57 +541,59 @@ fn room() -> bool {
 
 // ---- a line for each
 
-fn say_written() {
-    say(quad_of_five(), b"quad of five lines, closed");
-    say(cubic_of_nine(), b"cubic of nine lines");
-    say(counts(), b"carried counts 5, 1, 9, none");
-    say(odd_counts(), b"counts of NaN, no tolerance and too far");
+fn say_written(rt: &impl Print) -> io::Result<()> {
+    say(rt, quad_of_five(), b"quad of five lines, closed")?;
+    say(rt, cubic_of_nine(), b"cubic of nine lines")?;
+    say(rt, counts(), b"carried counts 5, 1, 9, none")?;
+    say(rt, odd_counts(), b"counts of NaN, no tolerance and too far")
 }
 
-fn say_held() {
-    say(held_back(), b"one of two curves held back");
-    say(two_held_back(), b"two curves held back");
-    say(held_and_refused(), b"none held back in a refusal");
-    say(held_at(), b"the verb of a curve that is held back");
+fn say_held(rt: &impl Print) -> io::Result<()> {
+    say(rt, held_back(), b"one of two curves held back")?;
+    say(rt, two_held_back(), b"two curves held back")?;
+    say(rt, held_and_refused(), b"none held back in a refusal")?;
+    say(rt, held_at(), b"the verb of a curve that is held back")?;
     let all = held_curves() && held_numbers();
     say(
+        rt,
         all,
         b"held back: infinite, by either difference, past 1,000,000",
-    );
+    )
 }
 
-fn say_closed() {
-    say(scales(), b"tolerance for a scale");
-    say(middles(), b"middles of curves");
+fn say_closed(rt: &impl Print) -> io::Result<()> {
+    say(rt, scales(), b"tolerance for a scale")?;
+    say(rt, middles(), b"middles of curves")?;
     let closed = closed_by_value() && sign_kept();
-    say(closed, b"closing by value");
-    say(closed_twice(), b"closed twice");
-    say(nan_start(), b"NaN start");
-    say(curve_after_close(), b"curve after a close");
+    say(rt, closed, b"closing by value")?;
+    say(rt, closed_twice(), b"closed twice")?;
+    say(rt, nan_start(), b"NaN start")?;
+    say(rt, curve_after_close(), b"curve after a close")
 }
 
-fn say_marked() {
-    say(empty_subpaths(), b"empty subpaths");
-    say(two_polylines(), b"two polylines");
-    say(nothing(), b"no verbs");
-    say(marks_by_last_verb(), b"marks by the last verb");
+fn say_marked(rt: &impl Print) -> io::Result<()> {
+    say(rt, empty_subpaths(), b"empty subpaths")?;
+    say(rt, two_polylines(), b"two polylines")?;
+    say(rt, nothing(), b"no verbs")?;
+    say(rt, marks_by_last_verb(), b"marks by the last verb")?;
     say(
+        rt,
         marks_without_a_point(),
         b"marks where no closing point is added",
-    );
-    say(marks_for_polylines(), b"a mark for each polyline");
+    )?;
+    say(rt, marks_for_polylines(), b"a mark for each polyline")
 }
 
-fn say_refused() {
-    say(path_refusals(), b"refusals of a path");
-    say(limits(), b"limits");
-    say(room(), b"room");
+fn say_refused(rt: &impl Print) -> io::Result<()> {
+    say(rt, path_refusals(), b"refusals of a path")?;
+    say(rt, limits(), b"limits")?;
+    say(rt, room(), b"room")
 }
 
-fn main() {
-    say_written();
-    say_held();
-    say_closed();
-    say_marked();
-    say_refused();
+fn main(rt: HostRuntime) -> io::Result<()> {
+    say_written(&rt)?;
+    say_held(&rt)?;
+    say_closed(&rt)?;
+    say_marked(&rt)?;
+    say_refused(&rt)
 }

@@ -10,7 +10,7 @@ use lib.Ieee.{Float}
 use Rattle.path.specs.declared.FillRule.TheVariants.{NonZero, EvenOdd}
 use Rattle.builder.specs.declared.Call.{Call}
 use Rattle.builder.specs.declared.Call.TheVariants.{MoveTo, LineTo, QuadTo, ConicTo, CubicTo, Close, WithFillRule, AsRoundedRect}
-use Rattle.replay.specs.Calls.{taken, call_of, ends, calls, kind_of, pair, kinds, numbers, AllKinds}
+use Rattle.replay.specs.Calls.{taken, ends, calls, kind_of, pair, kinds, numbers, AllKinds}
 use Rattle.replay.specs.Replay.{run_of, replayed, Encodes}
 
 kind_is : (c : Call) → kind_of c ≤ 8

@@ -1,4 +1,4 @@
-// IEEE 754's square_root, from a float's bits.
+// IEEE 754's squareRoot, from a float's bits.
 #![tactic(auto)]
 
 ghost use Rattle.std.specs.Prelude.{◌≡◌, ◌^◌, ◌≤◌, ◌<◌, T, not};
@@ -128,7 +128,7 @@ pub fn root_pattern(b: u32) -> u32
     }
 }
 
-// IEEE 754's square_root.
+// IEEE 754's squareRoot.
 pub fn sqrt(x: f32) -> f32
     ensures { result ≡ square_root binary32 x }
 {

@@ -5,6 +5,9 @@
 
 ghost use Rattle.std.specs.Prelude.{◌≤◌, ◌<◌};
 
+use std::io;
+use std::io::{BufReader, ErrorKind, Read};
+
 // A line: 8, 8 and 4 digits, with a space behind each number but the last.
 const LINE: usize = 23;
 
@@ -78,19 +81,29 @@ fn one(b: bool) -> u64
     if b { 1 } else { 0 }
 }
 
-fn say(n: u64, what: &[u8]) {
-    io::print_decimal(1, n);
-    io::write_all(1, what);
+// Fills `text` from the input, and answers whether the input had as much.
+fn read_full(input: &mut impl Read, text: &mut [u8]) -> io::Result<bool> {
+    match input.read_exact(text) {
+        Ok(()) => Ok(true),
+        Err(e) if e.kind() == ErrorKind::UnexpectedEof => Ok(false),
+        Err(e) => Err(e),
+    }
 }
 
-fn main() {
-    let mut text = [0u8; 23];
+fn say(rt: &impl Print, n: u64, what: &[u8]) -> io::Result<()> {
+    print!(rt; "{n}")?;
+    rt.write_all(what)
+}
+
+fn main(rt: HostRuntime) -> io::Result<()> {
+    let mut input = BufReader::new(rt.alloc(), rt.reader())?;
+    let mut text = [0u8; LINE];
     let mut lines: u64 = 0;
     let mut roots: u64 = 0;
     let mut counts: u64 = 0;
     let mut held: u64 = 0;
     while lines < 1000000 {
-        if io::read_full(0, &mut text) != LINE {
+        if !read_full(&mut input, &mut text)? {
             break;
         }
         let found = compare(&text);
@@ -99,11 +112,11 @@ fn main() {
         counts += one(found.count);
         held += one(found.held);
         if !(found.root && found.count && found.held) {
-            io::write_all(1, &text);
+            rt.write_all(&text)?;
         }
     }
-    say(lines, b" operands\n");
-    say(roots, b" roots as the machine's\n");
-    say(counts, b" segment counts as the source's\n");
-    say(held, b" held back or not, as the request has it\n");
+    say(&rt, lines, b" operands\n")?;
+    say(&rt, roots, b" roots as the machine's\n")?;
+    say(&rt, counts, b" segment counts as the source's\n")?;
+    say(&rt, held, b" held back or not, as the request has it\n")
 }

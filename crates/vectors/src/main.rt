@@ -13,6 +13,8 @@ use outline::Dashed;
 use path::FillRule;
 use polyline::Flattened;
 use rect::Rect;
+use std::io;
+use std::io::{BufReader, ErrorKind, Read};
 use turns::Convexity;
 use vec2::Vec2;
 
@@ -20,6 +22,15 @@ use vec2::Vec2;
 const WORDS: usize = 4352;
 
 // ---- reading
+
+// Fills `text` from the input, and answers whether the input had as much.
+fn read_full(input: &mut impl Read, text: &mut [u8]) -> io::Result<bool> {
+    match input.read_exact(text) {
+        Ok(()) => Ok(true),
+        Err(e) if e.kind() == ErrorKind::UnexpectedEof => Ok(false),
+        Err(e) => Err(e),
+    }
+}
 
 fn wide(b: u8) -> u32
     ensures { result < 256 }
@@ -31,21 +42,21 @@ fn word_of(b0: u8, b1: u8, b2: u8, b3: u8) -> u32 {
     wide(b0) + 256 * wide(b1) + 65536 * wide(b2) + 16777216 * wide(b3)
 }
 
-// Fills the first n words from standard input, and says whether it had so many.
-fn read_words(words: &mut [u32], n: usize) -> bool {
+// Fills the first n words from the input, and says whether it had so many.
+fn read_words(input: &mut impl Read, words: &mut [u32], n: usize) -> io::Result<bool> {
     let mut four = [0u8; 4];
     let mut i: usize = 0;
     while i < n {
         if words.len() <= i {
-            return false;
+            return Ok(false);
         }
-        if io::read_full(0, &mut four) != 4 {
-            return false;
+        if !read_full(input, &mut four)? {
+            return Ok(false);
         }
         words[i] = word_of(four[0], four[1], four[2], four[3]);
         i += 1;
     }
-    true
+    Ok(true)
 }
 
 // Word i of a case; 0 past its end.
@@ -564,31 +575,32 @@ fn run(data: &[u32], words: usize) -> bool {
     end.same && end.at == words
 }
 
-fn say(n: u64, what: &[u8]) {
-    io::print_decimal(1, n);
-    io::write_all(1, what);
+fn say(rt: &impl Print, n: u64, what: &[u8]) -> io::Result<()> {
+    print!(rt; "{n}")?;
+    rt.write_all(what)
 }
 
-fn main() {
+fn main(rt: HostRuntime) -> io::Result<()> {
+    let mut input = BufReader::new(rt.alloc(), rt.reader())?;
     let mut head = [0u32; 1];
     let mut data = [0u32; 4352];
     let mut cases: u64 = 0;
     let mut right: u64 = 0;
     while cases < 100000 {
-        if !read_words(&mut head, 1) {
+        if !read_words(&mut input, &mut head, 1)? {
             break;
         }
         let n = count_at(&head, 0);
-        if !read_words(&mut data, n) {
+        if !read_words(&mut input, &mut data, n)? {
             break;
         }
         cases += 1;
         if run(&data, n) {
             right += 1;
         } else {
-            say(cases, b" differs\n");
+            say(&rt, cases, b" differs\n")?;
         }
     }
-    say(cases, b" cases\n");
-    say(right, b" as the source and the requests have it\n");
+    say(&rt, cases, b" cases\n")?;
+    say(&rt, right, b" as the source and the requests have it\n")
 }

@@ -2,7 +2,6 @@
 use mathlib.Core.Path.{ap}
 use Prim.Native.Nat.{ℕ, ◌+◌}
 use native.Mathlib.Omega.{arith}
-use borrow.Author.Rules.{rules}
 use Rattle.replay.proofs.Tables.{one_at_most}
 use Rattle.replay.proofs.Runs.{stood}
 use Rattle.replay.proofs.go_on.Goals as goal

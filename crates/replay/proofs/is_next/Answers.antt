@@ -1,7 +1,6 @@
 -- `replay::is_next` meets its contract. Assumes nothing.
 use mathlib.Core.Logic.{inl, inr}
 use Rattle.replay.proofs.Runs.{told_next, told_none}
-use borrow.Author.Rules.{rules}
 use Rattle.replay.proofs.is_next.Goals as goal
 
 pub returns-then-kinds-i : goal.returns-then-kinds-i

@@ -1,7 +1,6 @@
 -- `replay::note` meets its contract. Assumes nothing.
 use mathlib.Core.Path.{refl}
 use Rattle.replay.proofs.Tables.{note_as}
-use borrow.Author.Rules.{rules}
 use Rattle.replay.proofs.note.Goals as goal
 
 pub returns : goal.returns

@@ -1,7 +1,6 @@
 -- `replay::numbers_taken` meets its contract. Assumes nothing.
 use mathlib.Core.Path.{sym}
 use Rattle.replay.proofs.Tables.{takes_none}
-use borrow.Author.Rules.{rules}
 use Rattle.replay.proofs.numbers_taken.Goals as goal
 
 pub returns-else-kind-eq8 : goal.returns-else-kind-eq8

@@ -1,5 +1,4 @@
 -- `replay::one_if` meets its contract. Assumes nothing.
-use borrow.Author.Rules.{rules}
 use Rattle.replay.proofs.Tables.{one_if_not}
 use Rattle.replay.proofs.one_if.Goals as goal
 

@@ -1,12 +1,8 @@
 -- `replay::play_closes` meets its contract. Assumes nothing.
 use mathlib.Core.Path.{refl, ap}
-use Prim.Native.Nat.{◌-◌}
 use native.Mathlib.Omega.{arith}
-use lib.ListN.{length}
 use Rattle.replay.specs.declared.Run.{Run}
-use Rattle.replay.specs.Run.{Along}
 use Rattle.replay.proofs.Runs.{begins, turned, run_over}
-use borrow.Author.Rules.{rules}
 use Rattle.replay.proofs.play_closes.Goals as goal
 
 pub loop-state-init : goal.loop-state-init

@@ -1,12 +1,7 @@
 -- `replay::play_closes` meets its contract. Assumes nothing.
-use mathlib.Core.Path.{refl, ap}
 use Prim.Native.Nat.{◌-◌}
-use native.Mathlib.Omega.{arith}
 use lib.ListN.{length}
-use Rattle.replay.specs.declared.Run.{Run}
 use Rattle.replay.specs.Run.{Along}
-use Rattle.replay.proofs.Runs.{begins, turned, run_over}
-use borrow.Author.Rules.{rules}
 use Rattle.replay.proofs.play_closes.Given as goal
 
 abbrev pub invariant-loop-state : goal.invariant-loop-state

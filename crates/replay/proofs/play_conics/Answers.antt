@@ -1,15 +1,11 @@
 -- `replay::play_conics` meets its contract. Assumes nothing.
 use mathlib.Core.Path.{sym, ap}
-use Prim.Native.Nat.{◌-◌}
 use native.Mathlib.Omega.{arith}
-use lib.ListN.{length}
 use lib.Seq.{get_or-drop}
 use lib.Ieee.{nan}
 use Rattle.replay.proofs.Tables.{conic_as}
 use Rattle.replay.specs.declared.Run.{Run}
-use Rattle.replay.specs.Run.{Along}
 use Rattle.replay.proofs.Runs.{begins, turned, run_over}
-use borrow.Author.Rules.{rules}
 use Rattle.replay.proofs.play_conics.Goals as goal
 
 pub loop-c-init : goal.loop-c-init

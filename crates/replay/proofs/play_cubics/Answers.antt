@@ -1,13 +1,9 @@
 -- `replay::play_cubics` meets its contract. Assumes nothing.
 use mathlib.Core.Path.{ap}
-use Prim.Native.Nat.{◌-◌}
 use native.Mathlib.Omega.{arith}
-use lib.ListN.{length}
 use Rattle.replay.proofs.Tables.{cubic_as}
 use Rattle.replay.specs.declared.Run.{Run}
-use Rattle.replay.specs.Run.{Along}
 use Rattle.replay.proofs.Runs.{begins, turned, run_over}
-use borrow.Author.Rules.{rules}
 use Rattle.replay.proofs.play_cubics.Goals as goal
 
 pub loop-c-init : goal.loop-c-init

@@ -1,13 +1,7 @@
 -- `replay::play_moves` meets its contract. Assumes nothing.
-use mathlib.Core.Path.{ap}
 use Prim.Native.Nat.{◌-◌}
-use native.Mathlib.Omega.{arith}
 use lib.ListN.{length}
-use Rattle.builder.specs.declared.Call.TheVariants.{MoveTo}
-use Rattle.replay.specs.declared.Run.{Run}
 use Rattle.replay.specs.Run.{Along}
-use Rattle.replay.proofs.Runs.{begins, turned, run_over}
-use borrow.Author.Rules.{rules}
 use Rattle.replay.proofs.play_moves.Given as goal
 
 abbrev pub invariant-loop-p : goal.invariant-loop-p

@@ -1,5 +1,4 @@
 -- `replay::play_run` meets its contract: an arm for each kind that has a loop, and one for those that take no buffer. Assumes nothing.
-use borrow.Author.Rules.{rules}
 use Rattle.replay.proofs.play_run.Goals as goal
 
 pub returns-in_default : goal.returns-in_default

@@ -8,7 +8,6 @@ use Rattle.builder.specs.Build.{set_by}
 use Rattle.replay.specs.Calls.{call_of}
 use Rattle.replay.proofs.Places.{rest_is}
 use Rattle.replay.proofs.Runs.{begins, too_few, no_call, told_one}
-use borrow.Author.Rules.{rules}
 use Rattle.replay.proofs.play_told.Goals as goal
 
 pub returns-then-kind-gt8 : goal.returns-then-kind-gt8

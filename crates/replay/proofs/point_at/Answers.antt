@@ -1,6 +1,5 @@
 -- `replay::point_at` meets its contract. Assumes nothing.
 use Rattle.replay.proofs.Places.{point_behind}
-use borrow.Author.Rules.{rules}
 use Rattle.replay.proofs.point_at.Goals as goal
 
 pub returns : goal.returns

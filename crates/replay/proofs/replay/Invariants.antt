@@ -1,13 +1,7 @@
 -- `replay::replay` meets its contract: what is left behind each run makes of the present what the whole list makes of a fresh builder. Assumes nothing.
-use mathlib.Core.Path.{refl}
-use mathlib.Core.Logic.{⊎_elim}
 use Prim.Native.Nat.{◌-◌}
-use native.Mathlib.Omega.{arith}
 use lib.ListN.{length}
 use Rattle.replay.specs.Run.{Along}
-use Rattle.replay.proofs.Places.{no_kind}
-use Rattle.replay.proofs.Runs.{Over, stays, onward, over, over_as}
-use borrow.Author.Rules.{rules}
 use Rattle.replay.proofs.replay.Given as goal
 
 abbrev pub invariant-loop-r : goal.invariant-loop-r
