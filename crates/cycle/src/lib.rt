@@ -91,7 +91,7 @@ pub fn start_of(cycle: &[f32], phase: f32, period: f32) -> Pos
     ensures started { result ≡ start_of cycle.now phase period }
     ensures indexed { result.index < length cycle.now }
 {
-    let mut remaining = float::rem_euclid(phase, period);
+    let mut remaining = remainder::rem_euclid(phase, period);
     let mut index = first_above(cycle, 0);
     while remaining >= cycle[index] {
         let next = remaining - cycle[index];

@@ -1,0 +1,112 @@
+// The remainder of a division, exactly, from two floats' bits: no call of the C library's.
+#![tactic(auto)]
+
+ghost use Rattle.std.specs.Prelude.{◌≡◌, ◌*◌, ◌%◌, ◌^◌, ◌≤◌, ◌<◌};
+ghost use Rattle.std.specs.Float.{binary32};
+ghost use Rattle.std.specs.Float.Ieee.{rem};
+ghost use Rattle.float.specs.Pattern.{magnitude};
+ghost use Rattle.float.specs.Small.{rem_euclid};
+ghost use Rattle.remainder.specs.Parts.{Parts};
+
+// A size in units of the smallest value: at most 24 digits, and zeros behind them.
+#[derive(Clone, Copy)]
+struct Size {
+    digits: u32,
+    zeros: u32,
+}
+
+// The size of a finite pattern whose sign is clear.
+fn size_of(b: u32) -> Size
+    requires { b < 0x7f80_0000 }
+    ensures { Parts b result.digits result.zeros }
+{
+    if b < 0x80_0000 {
+        return Size {
+            digits: b,
+            zeros: 0,
+        };
+    }
+    Size {
+        digits: 0x80_0000 + b % 0x80_0000,
+        zeros: b / 0x80_0000 - 1,
+    }
+}
+
+// What n with k zeros behind it leaves when it is divided by m.
+fn rest_of(n: u32, k: u32, m: u32) -> u32
+    requires { (0 < m) × (m < 2 ^ 24) }
+    ensures { (result ≡ n * 2 ^ k % m) × (result < m) }
+{
+    let mut r = n % m;
+    let mut left = k;
+    while 0 < left {
+        r = r * 2 % m;
+        left -= 1;
+    }
+    r
+}
+
+// The pattern of a size: its digits are moved up until there are 24, or no zero is left.
+fn pattern_of(digits: u32, zeros: u32) -> u32
+    requires { (digits < 2 ^ 24) × (zeros ≤ 253) }
+    ensures { (magnitude result ≡ digits * 2 ^ zeros) × (result < 0x7f80_0000) }
+{
+    let mut r = digits;
+    let mut k = zeros;
+    while 0 < k {
+        if 0x80_0000 <= r {
+            break;
+        }
+        r = r * 2;
+        k -= 1;
+    }
+    k * 0x80_0000 + r
+}
+
+// The pattern of what a leaves when it is divided by m, both by their patterns.
+fn rest_pattern(a: u32, m: u32) -> u32
+    requires { (a < 0x7f80_0000) × (0 < m) × (m < 0x7f80_0000) }
+    ensures { (magnitude result ≡ magnitude a % magnitude m) × (result < 0x7f80_0000) }
+{
+    let x = size_of(a);
+    let y = size_of(m);
+    if x.zeros < y.zeros {
+        return a;
+    }
+    let r = rest_of(x.digits, x.zeros - y.zeros, y.digits);
+    pattern_of(r, y.zeros)
+}
+
+// a % m.
+pub fn rem(a: f32, m: f32) -> f32
+    ensures { result ≡ rem binary32 a m }
+{
+    if a != a {
+        return a;
+    }
+    if m != m {
+        return m;
+    }
+    let n = f32::to_bits(a);
+    let x = n % 0x8000_0000;
+    let y = f32::to_bits(m) % 0x8000_0000;
+    if 0x7f80_0000 <= x {
+        return 0.0 / 0.0;
+    }
+    if y == 0 {
+        return 0.0 / 0.0;
+    }
+    if 0x7f80_0000 <= y {
+        return a;
+    }
+    let r = f32::from_bits(rest_pattern(x, y));
+    if n < 0x8000_0000 { r } else { -r }
+}
+
+// a % m, and |m| more where that is below zero.
+pub fn rem_euclid(a: f32, m: f32) -> f32
+    ensures { result ≡ rem_euclid a m }
+{
+    let r = rem(a, m);
+    if r < 0.0 { r + float::abs(m) } else { r }
+}
