@@ -455,6 +455,7 @@ static void roots(void) {
 
 static void values(void) {
     HzVec2 a = at(0, 0), b = at(8, 8), c = at(16, 0);
+    CHECK(hz_sqrt(2.0f) == sqrtf(2.0f) && isnan(hz_sqrt(-1.0f)));
     CHECK(counted(hz_segment_count(998001.0f), 999, false) && counted(hz_segment_count(NAN), 1, false) && counted(hz_segment_count(-INFINITY), 1, false));
     CHECK(counted(hz_segment_count(1e6f), HZ_MAX_SEGMENTS, false));
     CHECK(counted(hz_segment_count(nextafterf(1e6f, INFINITY)), HZ_MAX_SEGMENTS, true));

@@ -17,7 +17,7 @@ use lib.Ieee.Positive.{positive, mul_at}
 use lib.Ieee.Scale.{grid, round_val, normal_of_fraction}
 use Rattle.float.specs.Root.{square_root}
 use Rattle.float.specs.Pattern.{magnitude, rounded}
-use Rattle.float.proofs.Law.{root_law, operand, Way, way, suc_square, scale}
+use Rattle.float.proofs.Law.{root_in_order, operand, Way, way, suc_square, scale}
 
 -- v is some number of smallest values, and d of it are near n
 pub record Near (v : Float) (d n : ℕ) : Type 0 where
@@ -121,7 +121,7 @@ carried s t w x y h e f = omega (arith, mul-le-mul_right w h, mul_assoc 1024 s w
 pub root_near : (b : ℕ) → 0 < b → b < 0x7f80_0000 →
     (r : ℕ) × HasValue (square_root binary32 (of_bits binary32 b)) false r (2 ^ 149) × (1024 * (r * r) ≤ 1025 * (magnitude b * 2 ^ 149)) × (1024 * (magnitude b * 2 ^ 149) ≤ 1025 * (r * r))
 root_near b l h =
-    let z = root_law b l h in
+    let z = root_in_order b l h in
     let q = z.root in
     let e = z.remainder in
     let p = rounded q e in

@@ -28,7 +28,7 @@ fn copy_in(dst: &mut [f32], at: usize, src: &[f32])
 
 // A line style: its intervals are the first `len` of `values`, the others 0. `refused` is 9 for a style over 8.
 #[repr(C)]
-#[derive(Drop)]
+#[derive(Clone, Copy)]
 pub struct LineStyle {
     pub values: [f32; MAX_INTERVALS],
     pub len: usize,
@@ -114,7 +114,7 @@ pub fn is_usable(intervals: &[f32], phase: f32) -> bool
 }
 
 // The working cycle: the first `len` of `values`, the others 0.
-#[derive(Drop)]
+#[derive(Clone, Copy)]
 pub struct Cycle {
     pub values: [f32; MAX_CYCLE],
     pub len: usize,
