@@ -2,4 +2,3 @@ pub mod Checks
 pub mod Segments
 pub mod Encoded
 pub mod Steps
-pub mod Styles

@@ -1,14 +1,12 @@
 -- A segment read by its verb: what a `match` on the verb shows of `seg_at`. Assumes nothing.
-use mathlib.Core.Path.{◌≡◌, refl, sym}
+use mathlib.Core.Path.{◌≡◌, refl}
 use mathlib.Core.List.{List}
-use Prim.Native.Nat.{ℕ, zero, suc, ◌+◌, ◌≤◌}
-use native.Mathlib.Omega.{arith}
-use lib.ListN.{get_or-eq_default}
+use Prim.Native.Nat.{ℕ, zero, suc, ◌+◌}
 use lib.Ieee.{Float}
 use Rattle.vec2.specs.Points.{point_at}
 use Rattle.path.specs.declared.Segment.TheVariants.{Move, Line, Quad, Cubic, Close}
 use Rattle.vec2.specs.declared.Vec2.{Vec2}
-use Rattle.path.specs.Segment.{seg_at, table, used}
+use Rattle.path.specs.Segment.{seg_at}
 
 module _ (v : ℕ) (fs : List Float) (k : ℕ) where
   pub seg_move : (p : Vec2) → v ≡ 0 → p ≡ point_at fs k → Move p ≡ seg_at v fs k
@@ -29,18 +27,3 @@ seg_close (suc zero) fs k a b c d = absurd (b refl)
 seg_close (suc (suc zero)) fs k a b c d = absurd (c refl)
 seg_close (suc (suc (suc zero))) fs k a b c d = absurd (d refl)
 seg_close (suc (suc (suc (suc v)))) fs k a b c d = refl
-
--- ---- the table
-
--- a byte that is no verb uses none
-pub used_past : (v : ℕ) → 5 ≤ v → 0 ≡ used v
-used_past v h = sym (get_or-eq_default table 0 h)
-
--- a verb uses at most three
-pub used_few : (v : ℕ) → used v ≤ 3
-used_few zero = omega arith
-used_few (suc zero) = omega arith
-used_few (suc (suc zero)) = omega arith
-used_few (suc (suc (suc zero))) = omega arith
-used_few (suc (suc (suc (suc zero)))) = omega arith
-used_few (suc (suc (suc (suc (suc v))))) = omega arith

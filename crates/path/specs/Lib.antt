@@ -1,4 +1,6 @@
 pub mod Segment
+pub mod Rule
+pub mod Refusal
 pub mod Check
 pub mod Cursor
 pub mod Style

@@ -1,10 +1,8 @@
--- The table of line styles by number ("Dash" of the scope), and a style's row of six floats. Definitions only.
-use Rattle.std.specs.Prelude.{ℕ, List, [], ◌∷◌, length, get_or, replicate, Float}
-use Rattle.std.proofs.lemmas.List.Edits.{sets}
+-- The table of line styles by number ("Dash" of the scope). Definitions only.
+use Rattle.std.specs.Prelude.{ℕ, List, [], ◌∷◌, get_or, Float}
 use Rattle.std.specs.Float.{binary32}
 use Rattle.std.specs.Float.Ieee.{of_bits}
-use Rattle.float.specs.Arith.{f0, f1, f2, f4}
-use Rattle.path.specs.declared.StyleRow.{StyleRow}
+use Rattle.float.specs.Arith.{f1, f2, f4}
 
 abbrev pub f6 : Float
 f6 = of_bits binary32 0x40c0_0000
@@ -35,10 +33,3 @@ styles =
 -- the intervals of style n; none for a number that is no style
 abbrev pub style_of : ℕ → List Float
 style_of n = get_or styles n []
-
--- the intervals, filled up to six with zeros, and how many there are
-abbrev pub row_of : List Float → StyleRow
-row_of xs = record { values = sets (replicate 6 f0) 0 xs; len = length xs }
-
-abbrev pub style_row : ℕ → StyleRow
-style_row n = row_of (style_of n)

@@ -3,27 +3,97 @@
 
 ghost use Rattle.std.specs.Prelude.{◌≡◌, false, ◌+◌, ◌*◌, ◌≤◌, ◌<◌, length};
 ghost use Rattle.vec2.specs.Points.{point_at};
-ghost use Rattle.path.specs.Segment.{used};
-ghost use Rattle.path.specs.Style.{style_row};
-ghost use Rattle.path.specs.Check.{max_verbs, used_by, any_over4, bad_first, bad_list, bad_path};
+ghost use Rattle.path.specs.Segment.{used, byte_of};
+ghost use Rattle.path.specs.Rule.{rule_in, rule_out};
+ghost use Rattle.path.specs.Style.{style_of};
+ghost use Rattle.path.specs.Check.{max_verbs, used_by, any_over4, bad_first, check, check_points};
+ghost use Rattle.path.specs.Refusal.{number};
 
 use vec2::Vec2;
 
 // How overlapping subpaths combine when filling.
-#[derive(Clone, Copy)]
+#[derive(Clone, Copy, PartialEq, Eq)]
 pub enum FillRule {
     NonZero,
     EvenOdd,
 }
 
+// By a byte: 0 is the non-zero rule, any other even-odd.
+impl From<u8> for FillRule {
+    ghost from_gives = { λ n r. r ≡ rule_in n };
+
+    #[tactic(auto, unfolding(crate::specs::Rule::rule_in))]
+    fn from(n: u8) -> FillRule {
+        if n == 0 {
+            FillRule::NonZero
+        } else {
+            FillRule::EvenOdd
+        }
+    }
+}
+
+impl From<FillRule> for u8 {
+    ghost from_gives = { λ r n. n ≡ rule_out r };
+
+    fn from(rule: FillRule) -> u8 {
+        rule as u8
+    }
+}
+
 // A verb with the points that it uses.
-#[derive(Clone, Copy)]
+#[derive(Clone, Copy, PartialEq)]
 pub enum Segment {
     Move(Vec2),
     Line(Vec2),
     Quad(Vec2, Vec2),
     Cubic(Vec2, Vec2, Vec2),
     Close,
+}
+
+impl Segment {
+    // The byte of its verb.
+    pub fn verb(self) -> u8
+        ensures { result ≡ byte_of self }
+    {
+        match self {
+            Segment::Move(_) => 0,
+            Segment::Line(_) => 1,
+            Segment::Quad(_, _) => 2,
+            Segment::Cubic(_, _, _) => 3,
+            Segment::Close => 4,
+        }
+    }
+}
+
+// Why a call is refused: who lends memory, who hands in a path, who hands in a builder's state, who orders a line. The numbers are the C interface's.
+#[derive(Clone, Copy, PartialEq, Eq)]
+pub enum Refusal {
+    // a coordinate buffer has an odd number of floats
+    OddFloats = 1,
+    // a builder call needs more verbs or points than its buffers or the limits have left
+    BuilderFull = 2,
+    // flattening or dashing yields more than an output can take
+    OutputFull = 3,
+    // over a limit
+    OverLimit = 4,
+    // a verb byte over 4
+    NoVerb = 5,
+    // not empty and first verb no move, or the verbs use another number of points than given
+    BadPath = 6,
+    // a builder's state with counts over the buffers or limits, or whose flag and counts are at odds
+    BadState = 7,
+    // over 64 intervals
+    LongPattern = 8,
+    // a line style over 8
+    NoStyle = 9,
+}
+
+impl From<Refusal> for u8 {
+    ghost from_gives = { λ r n. n ≡ number r };
+
+    fn from(r: Refusal) -> u8 {
+        r as u8
+    }
 }
 
 pub const MAX_VERBS: usize = 65536;
@@ -35,26 +105,18 @@ pub const MAX_POINTS: usize = 131072;
 // The points that each verb uses: move, line, quad, cubic, close.
 const POINT_COUNTS: [u8; 5] = [1, 1, 2, 3, 0];
 
-// The intervals of each line style, filled up to six with zeros, and how many each style has.
-const STYLES: [[f32; 6]; 9] = [
-    [0.0, 0.0, 0.0, 0.0, 0.0, 0.0],
-    [12.0, 6.0, 0.0, 0.0, 0.0, 0.0],
-    [6.0, 6.0, 0.0, 0.0, 0.0, 0.0],
-    [2.0, 4.0, 0.0, 0.0, 0.0, 0.0],
-    [12.0, 4.0, 2.0, 4.0, 0.0, 0.0],
-    [12.0, 4.0, 2.0, 4.0, 2.0, 4.0],
-    [8.0, 0.0, 0.0, 0.0, 0.0, 0.0],
-    [4.0, 2.0, 1.0, 0.0, 0.0, 0.0],
-    [24.0, 8.0, 0.0, 0.0, 0.0, 0.0],
+// The intervals of each line style.
+const STYLES: [&[f32]; 9] = [
+    &[],
+    &[12.0, 6.0],
+    &[6.0, 6.0],
+    &[2.0, 4.0],
+    &[12.0, 4.0, 2.0, 4.0],
+    &[12.0, 4.0, 2.0, 4.0, 2.0, 4.0],
+    &[8.0],
+    &[4.0, 2.0, 1.0],
+    &[24.0, 8.0],
 ];
-
-const STYLE_LENGTHS: [usize; 9] = [0, 2, 2, 2, 4, 6, 1, 3, 2];
-
-fn wide(count: u8) -> usize
-    ensures { (result ≡ count) × (result ≤ 255) }
-{
-    count as usize
-}
 
 // The points that a verb uses; none for a byte that is no verb.
 pub fn point_count(verb: u8) -> usize
@@ -62,29 +124,16 @@ pub fn point_count(verb: u8) -> usize
 {
     let at = verb as usize;
     if at < 5 {
-        return wide(POINT_COUNTS[at]);
+        return usize::from(POINT_COUNTS[at]);
     }
     0
 }
 
-// A line style's row: its intervals are the first `len` of `values`, the others 0.
-#[derive(Clone, Copy)]
-pub struct StyleRow {
-    pub values: [f32; 6],
-    pub len: usize,
-}
-
-// The row of a line style; no intervals for a number that is no style.
-pub fn style(number: usize) -> StyleRow
-    ensures { result ≡ style_row number }
+// The intervals of a line style; none for a number that is no style.
+pub fn style(number: usize) -> &'static [f32]
+    ensures { result.now ≡ style_of number }
 {
-    if number < 9 {
-        let values = STYLES[number];
-        let len = STYLE_LENGTHS[number];
-        return StyleRow { values, len };
-    }
-    let values = [0.0f32; 6];
-    StyleRow { values, len: 0 }
+    if number < 9 { STYLES[number] } else { &[] }
 }
 
 // ---- the path that is handed in
@@ -94,13 +143,8 @@ fn any_over_4(verbs: &[u8]) -> bool
     ensures { result ≡ any_over4 verbs.now }
 {
     let mut found = false;
-    let mut i: usize = 0;
-    while i < verbs.len() {
-        let v = verbs[i];
-        if 4 < v {
-            found = true;
-        }
-        i += 1;
+    for v in verbs {
+        found |= 4 < *v;
     }
     found
 }
@@ -112,11 +156,8 @@ fn points_of(verbs: &[u8]) -> usize
 {
     let counts = POINT_COUNTS;
     let mut n: usize = 0;
-    let mut i: usize = 0;
-    while i < verbs.len() {
-        let at = verbs[i] as usize;
-        n += wide(counts[at]);
-        i += 1;
+    for v in verbs {
+        n += usize::from(counts[*v as usize]);
     }
     n
 }
@@ -125,51 +166,42 @@ fn points_of(verbs: &[u8]) -> usize
 fn begins_badly(verbs: &[u8]) -> bool
     ensures { result ≡ bad_first verbs.now }
 {
-    if verbs.len() == 0 {
-        return false;
-    }
-    let v = verbs[0];
-    v != 0
+    verbs.first().is_some_and(|v| *v != 0)
 }
 
-// 1 or 4 for a bare list of points that is refused, else 0.
-pub fn check_points(points: &[f32]) -> u8
-    ensures { result ≡ bad_list points.now }
+// Whether a bare list of points is taken.
+#[tactic(auto, unfolding(crate::specs::Check::check_points))]
+pub fn check_points(points: &[f32]) -> Result<(), Refusal>
+    ensures { result ≡ check_points points.now }
 {
-    let count = points.len() / 2;
     if points.len() % 2 == 1 {
-        return 1;
+        return Err(Refusal::OddFloats);
     }
-    if MAX_POINTS < count {
-        return 4;
+    if MAX_POINTS < points.len() / 2 {
+        return Err(Refusal::OverLimit);
     }
-    0
+    Ok(())
 }
 
-// 1, 4, 5 or 6 for a path that is refused, in this order, else 0.
-pub fn check(verbs: &[u8], points: &[f32]) -> u8
-    ensures { result ≡ bad_path verbs.now points.now }
+// Whether a path is taken: what is wrong with it first, in this order.
+#[tactic(auto, unfolding(crate::specs::Check::check))]
+pub fn check(verbs: &[u8], points: &[f32]) -> Result<(), Refusal>
+    ensures { result ≡ check verbs.now points.now }
 {
-    let n = points.len() / 2;
-    if points.len() % 2 == 1 {
-        return 1;
-    }
+    check_points(points)?;
     if MAX_VERBS < verbs.len() {
-        return 4;
-    }
-    if MAX_POINTS < n {
-        return 4;
+        return Err(Refusal::OverLimit);
     }
     if any_over_4(verbs) {
-        return 5;
+        return Err(Refusal::NoVerb);
     }
     if begins_badly(verbs) {
-        return 6;
+        return Err(Refusal::BadPath);
     }
-    if points_of(verbs) != n {
-        return 6;
+    if points_of(verbs) != points.len() / 2 {
+        return Err(Refusal::BadPath);
     }
-    0
+    Ok(())
 }
 
 // ---- points and the cursor

@@ -6,11 +6,65 @@ ghost use Rattle.std.proofs.lemmas.List.Edits.{sets};
 ghost use Rattle.vec2.specs.Points.{flat};
 ghost use Rattle.vec2.specs.Vec2.{vec, origin, ◌⊕◌, ◌⊖◌, ◌⊙◌, ◌⊘◌, len, perp_dot, minimum, maximum, abs_of, max_element, any_nan, all_finite, same_as};
 
+use std::ops::{Add, Div, Mul, Sub};
+
 #[repr(C)]
-#[derive(Clone, Copy)]
+#[derive(Clone, Copy, PartialEq)]
 pub struct Vec2 {
     pub x: f32,
     pub y: f32,
+}
+
+impl Add for Vec2 {
+    type Output = Vec2;
+
+    ghost add_gives = { λ a b r. r ≡ a ⊕ b };
+
+    fn add(self, b: Vec2) -> Vec2 {
+        Vec2 {
+            x: self.x + b.x,
+            y: self.y + b.y,
+        }
+    }
+}
+
+impl Sub for Vec2 {
+    type Output = Vec2;
+
+    ghost sub_gives = { λ a b r. r ≡ a ⊖ b };
+
+    fn sub(self, b: Vec2) -> Vec2 {
+        Vec2 {
+            x: self.x - b.x,
+            y: self.y - b.y,
+        }
+    }
+}
+
+impl Mul<f32> for Vec2 {
+    type Output = Vec2;
+
+    ghost mul_gives = { λ a k r. r ≡ a ⊙ k };
+
+    fn mul(self, k: f32) -> Vec2 {
+        Vec2 {
+            x: self.x * k,
+            y: self.y * k,
+        }
+    }
+}
+
+impl Div<f32> for Vec2 {
+    type Output = Vec2;
+
+    ghost div_gives = { λ a k r. r ≡ a ⊘ k };
+
+    fn div(self, k: f32) -> Vec2 {
+        Vec2 {
+            x: self.x / k,
+            y: self.y / k,
+        }
+    }
 }
 
 impl Vec2 {
@@ -25,44 +79,6 @@ impl Vec2 {
         ensures { result ≡ origin }
     {
         Vec2 { x: 0.0, y: 0.0 }
-    }
-
-    pub fn add(self, b: Vec2) -> Vec2
-        ensures { result ≡ self ⊕ b }
-    {
-        Vec2 {
-            x: self.x + b.x,
-            y: self.y + b.y,
-        }
-    }
-
-    pub fn sub(self, b: Vec2) -> Vec2
-        ensures { result ≡ self ⊖ b }
-    {
-        Vec2 {
-            x: self.x - b.x,
-            y: self.y - b.y,
-        }
-    }
-
-    // Times a float.
-    pub fn mul(self, k: f32) -> Vec2
-        ensures { result ≡ self ⊙ k }
-    {
-        Vec2 {
-            x: self.x * k,
-            y: self.y * k,
-        }
-    }
-
-    // Over a float.
-    pub fn div(self, k: f32) -> Vec2
-        ensures { result ≡ self ⊘ k }
-    {
-        Vec2 {
-            x: self.x / k,
-            y: self.y / k,
-        }
     }
 
     pub fn length(self) -> f32
@@ -112,33 +128,27 @@ impl Vec2 {
     }
 
     // Whether a component is a NaN.
+    #[tactic(auto, unfolding(crate::specs::Vec2::any_nan))]
     pub fn is_nan(self) -> bool
         ensures { result ≡ any_nan self }
     {
-        if float::is_nan(self.x) {
-            return true;
-        }
-        float::is_nan(self.y)
+        float::is_nan(self.x) || float::is_nan(self.y)
     }
 
     // Whether both components are finite.
+    #[tactic(auto, unfolding(crate::specs::Vec2::all_finite))]
     pub fn is_finite(self) -> bool
         ensures { result ≡ all_finite self }
     {
-        if float::is_finite(self.x) {
-            return float::is_finite(self.y);
-        }
-        false
+        float::is_finite(self.x) && float::is_finite(self.y)
     }
 
     // Equal as numbers: −0 equals 0, and a NaN equals nothing.
+    #[tactic(auto, unfolding(crate::specs::Vec2::same_as))]
     pub fn same(self, b: Vec2) -> bool
         ensures { result ≡ same_as self b }
     {
-        if self.x == b.x {
-            return self.y == b.y;
-        }
-        false
+        self == b
     }
 }
 
