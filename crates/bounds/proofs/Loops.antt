@@ -14,9 +14,8 @@ use Rattle.vec2.specs.Points.{points_in, point_at}
 use Rattle.vec2.proofs.Points.{length-points_in, points_in-at}
 use Rattle.rect.specs.declared.Rect.{Rect}
 use Rattle.rect.specs.Rect.{widened}
-use Rattle.bounds.specs.declared.Question.{Question}
 use Rattle.bounds.specs.Bounds.{widened_by}
-use Rattle.bounds.specs.Range.{passed, all_pass}
+use Rattle.bounds.specs.Range.{all_pass}
 
 module _ (fs : List Float) where
   -- the points from k on
@@ -38,11 +37,11 @@ module _ (fs : List Float) where
   unfolding widened_by
   wide r k h = sym (ap (widened_by r) (from_end k h))
 
-  module _ (q : Question) where
-    pub all_next : (k : ℕ) (p : Vec2) (b : Bool) → k < length fs / 2 → p ≡ point_at fs k → passed q p ≡ b → b && all_pass q (from (k + 1)) ≡ all_pass q (from k)
+  module _ (test : Vec2 → Bool) where
+    pub all_next : (k : ℕ) (p : Vec2) (b : Bool) → k < length fs / 2 → p ≡ point_at fs k → test p ≡ b → b && all_pass test (from (k + 1)) ≡ all_pass test (from k)
     unfolding all_pass
-    all_next k p b h isP t = rw (← t, isP) (sym (ap (all_pass q) (from_next k h)))
+    all_next k p b h isP t = rw (← t, isP) (sym (ap (all_pass test) (from_next k h)))
 
-    pub all_end : (k : ℕ) → length fs / 2 ≤ k → true ≡ all_pass q (from k)
+    pub all_end : (k : ℕ) → length fs / 2 ≤ k → true ≡ all_pass test (from k)
     unfolding all_pass
-    all_end k h = sym (ap (all_pass q) (from_end k h))
+    all_end k h = sym (ap (all_pass test) (from_end k h))

@@ -4,9 +4,6 @@ use Rattle.std.specs.Float.{binary32}
 use Rattle.std.specs.Float.Ieee.{of_bits, le}
 use Rattle.float.specs.Small.{abs}
 use Rattle.vec2.specs.declared.Vec2.{Vec2}
-use Rattle.vec2.specs.Vec2.{all_finite}
-use Rattle.bounds.specs.declared.Question.{Question}
-use Rattle.bounds.specs.declared.Question.TheVariants.{Finite, InRange}
 
 -- 16,777,216
 abbrev pub max_coordinate : Float
@@ -19,10 +16,6 @@ is_small v = le (abs v) max_coordinate
 abbrev pub in_range : Vec2 → Bool
 in_range p = is_small p.x && is_small p.y
 
-abbrev pub passed : Question → Vec2 → Bool
-passed Finite = all_finite
-passed InRange = in_range
-
-unfoldable pub all_pass : Question → List Vec2 → Bool
-all_pass q [] = true
-all_pass q (p ∷ ps) = passed q p && all_pass q ps
+unfoldable pub all_pass : (Vec2 → Bool) → List Vec2 → Bool
+all_pass test [] = true
+all_pass test (p ∷ ps) = test p && all_pass test ps

@@ -26,14 +26,11 @@ fn next_other(points: &[f32], b: Vec2, from: usize) -> usize
 {
     let n = points.len() / 2;
     let mut k = from;
-    let mut left = n;
-    while 0 < left {
-        let p = path::point_at(points, k);
-        if !p.same(b) {
+    for _passed in 0..n {
+        if !path::point_at(points, k).same(b) {
             return k;
         }
         k = around(k + 1, n);
-        left -= 1;
     }
     k
 }
@@ -50,8 +47,7 @@ fn walk(points: &[f32]) -> Reason
         left: 0,
         right: 0,
     };
-    let mut i: usize = 0;
-    while i < n {
+    for i in 0..n {
         let j = around(i + 1, n);
         let a = path::point_at(points, i);
         let b = path::point_at(points, j);
@@ -59,14 +55,11 @@ fn walk(points: &[f32]) -> Reason
             let k = next_other(points, b, around(i + 2, n));
             let c = path::point_at(points, k);
             let turned = turning::turn_at(a, b, c);
-            let past = t.side;
-            let side = turned.side;
-            if turning::opposes(past, side) {
+            if turning::opposes(t.side, turned.side) {
                 return Reason::Opposing(j);
             }
             t = turning::count(t, turned);
         }
-        i += 1;
     }
     turning::end(t)
 }

@@ -12,6 +12,7 @@ use vec2::Vec2;
 const EPSILON: f32 = 0.00000011920929;
 
 // The side by the cross product. A NaN is not small and not above zero.
+#[tactic(auto, unfolding(turns::specs::Plane::side_of))]
 fn side_of(cross: f32) -> Side
     ensures { result ≡ side_of cross }
 {
@@ -25,6 +26,7 @@ fn side_of(cross: f32) -> Side
 }
 
 // The quadrant that a direction points into, counted to the left.
+#[tactic(auto, unfolding(turns::specs::Plane::quadrant_of))]
 fn quadrant(v: Vec2) -> u32
     ensures { (result ≡ quadrant_of v) × (result ≤ 3) }
 {
@@ -41,17 +43,15 @@ fn quadrant(v: Vec2) -> u32
 }
 
 // The turn at b on the way from a to c.
+#[tactic(auto, unfolding(turns::specs::Plane::turn_of))]
 pub fn turn_at(a: Vec2, b: Vec2, c: Vec2) -> Turn
     ensures { (result ≡ turn_of a b c) × (result.advance ≤ 3) }
 {
-    let incoming = b.sub(a);
-    let outgoing = c.sub(b);
-    let side = side_of(incoming.perp_dot(outgoing));
-    let from = quadrant(incoming);
-    let to = quadrant(outgoing);
+    let incoming = b - a;
+    let outgoing = c - b;
     Turn {
-        side,
-        advance: (to + 4 - from) % 4,
+        side: side_of(incoming.perp_dot(outgoing)),
+        advance: (quadrant(outgoing) + 4 - quadrant(incoming)) % 4,
     }
 }
 
@@ -59,19 +59,10 @@ pub fn turn_at(a: Vec2, b: Vec2, c: Vec2) -> Turn
 pub fn opposes(past: Side, side: Side) -> bool
     ensures { result ≡ opposed past side }
 {
-    match past {
-        Side::Straight => false,
-        Side::Left => match side {
-            Side::Straight => false,
-            Side::Left => false,
-            Side::Right => true,
-        },
-        Side::Right => match side {
-            Side::Straight => false,
-            Side::Left => true,
-            Side::Right => false,
-        },
-    }
+    matches!(
+        (past, side),
+        (Side::Left, Side::Right) | (Side::Right, Side::Left)
+    )
 }
 
 fn advance(t: Tally, side: Side, quadrants: u32) -> Tally
@@ -90,12 +81,9 @@ pub fn count(t: Tally, turned: Turn) -> Tally
     requires { (t.left ≤ 1000000) × (t.right ≤ 1000000) × (turned.advance ≤ 3) }
     ensures { result ≡ counted t turned }
 {
-    let past = t.side;
-    let side = turned.side;
-    match side {
-        Side::Straight => advance(t, past, turned.advance),
-        Side::Left => advance(t, Side::Left, turned.advance),
-        Side::Right => advance(t, Side::Right, turned.advance),
+    match turned.side {
+        Side::Straight => advance(t, t.side, turned.advance),
+        side => advance(t, side, turned.advance),
     }
 }
 
@@ -103,17 +91,17 @@ fn full(turned: u32) -> Reason
     ensures { result ≡ full_turn turned }
 {
     if turned > 4 {
-        return Reason::FullTurn(turned);
+        Reason::FullTurn(turned)
+    } else {
+        Reason::Agree
     }
-    Reason::Agree
 }
 
 // The reason where no turn opposes.
 pub fn end(t: Tally) -> Reason
     ensures { result ≡ ended t }
 {
-    let side = t.side;
-    match side {
+    match t.side {
         Side::Straight => Reason::NoTurn,
         Side::Left => full(t.left),
         Side::Right => full(t.right),

@@ -1,4 +1,5 @@
 pub mod Turn
 pub mod Walk
 pub mod Plane
+pub mod Reason
 pub mod Answer

@@ -1,7 +1,10 @@
 -- `next_other` meets its contract. The loop's invariant: what is left of the search gives what the whole one gives. Assumes nothing.
 use mathlib.Core.Path.{◌≡◌, refl, sym, ap, ◌∙◌}
 use mathlib.Core.Bool.{true, false}
+use Prim.Native.Nat.{◌+◌, ◌-◌, ◌/◌}
 use native.Mathlib.Omega.{arith}
+use native.Mathlib.Nat.{sub-zero}
+use lib.ListN.{length}
 use Rattle.vec2.specs.declared.Vec2.{Vec2}
 use Rattle.vec2.specs.Vec2.{same_as}
 use Rattle.vec2.specs.Points.{points_in}
@@ -11,40 +14,38 @@ use Rattle.turns.specs.Walk.{at, next}
 use Rattle.turns.proofs.Walks.{read, seek_stop, seek_pass, seek_end}
 use Rattle.polygon.proofs.next_other.Goals as goal
 
-pub loop-left-init : goal.loop-left-init
+pub loop-passed-init : goal.loop-passed-init
 unfolding next
-loop-left-init c = (c.requires, refl, rw length-points_in)
-
-pub same-requires : goal.same-requires
-same-requires c = tt
+loop-passed-init c = (c.requires, refl, rw (length-points_in, sub-zero))
 
 pub returns-then-not-same : goal.returns-then-not-same
 returns-then-not-same c =
-    let l = c.loop-left in
+    let l = c.loop-passed in
     let a = c.args in
     let fs = a.points.now in
-    let found = read fs l.k _ l.invariant.0 c.point_at-p.ensures in
+    let found = read fs l.k _ l.invariant.0 c.point_at.ensures in
     let other : same_as (at plane (points_in fs) l.k) a.b ≡ false =
     ap (λ (p : Vec2). same_as p a.b) (sym found) ∙ sym c.same.ensures ∙ c.if-not-same.true in
-    (seek_stop plane (points_in fs) _ (length-points_in fs) a.b l.left l.k _ other ∙ l.invariant.2, l.invariant.0)
+    (seek_stop plane (points_in fs) _ (length-points_in fs) a.b (length fs / 2 - l._passed) l.k _ other ∙ l.invariant.2, l.invariant.0)
 
-pub loop-left-preserved : goal.loop-left-preserved
-loop-left-preserved c =
-    let q = c.before in
-    let l = q.loop-left in
-    let a = q.args in
+pub loop-passed-preserved : goal.loop-passed-preserved
+loop-passed-preserved c =
+    let l = c.loop-passed in
+    let a = c.args in
     let fs = a.points.now in
-    let found = read fs l.k _ l.invariant.0 q.point_at-p.ensures in
+    let found = read fs l.k _ l.invariant.0 c.point_at.ensures in
     let passed : same_as (at plane (points_in fs) l.k) a.b ≡ true =
-    ap (λ (p : Vec2). same_as p a.b) (sym found) ∙ sym q.same.ensures ∙ q.if-not-same.false in (
+    ap (λ (p : Vec2). same_as p a.b) (sym found) ∙ sym c.same.ensures ∙ c.if-not-same.false in
+    let less : length fs / 2 - (l._passed + 1) ≡ length fs / 2 - l._passed - 1 = omega arith in (
       c.around-k.ensures.1,
       refl,
-      seek_pass plane (points_in fs) _ (length-points_in fs) a.b l.left l.k _ _ (omega arith) passed c.around-k.ensures.0 ∙ l.invariant.2,
+      rw less
+          (seek_pass plane (points_in fs) _ (length-points_in fs) a.b (length fs / 2 - l._passed) l.k _ _ (omega arith) passed c.around-k.ensures.0 ∙ l.invariant.2),
     )
 
 pub returns : goal.returns
 returns c =
-    let l = c.loop-left in
+    let l = c.loop-passed in
     let a = c.args in
     let fs = a.points.now in
-    (seek_end plane (points_in fs) _ (length-points_in fs) a.b l.left l.k _ (omega arith) ∙ l.invariant.2, l.invariant.0)
+    (seek_end plane (points_in fs) _ (length-points_in fs) a.b (length fs / 2 - l._passed) l.k _ (omega arith) ∙ l.invariant.2, l.invariant.0)

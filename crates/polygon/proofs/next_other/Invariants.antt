@@ -1,6 +1,6 @@
 -- `next_other` meets its contract. The loop's invariant: what is left of the search gives what the whole one gives. Assumes nothing.
 use mathlib.Core.Path.{◌≡◌}
-use Prim.Native.Nat.{◌/◌, ◌<◌}
+use Prim.Native.Nat.{◌-◌, ◌/◌, ◌<◌}
 use lib.ListN.{length}
 use Rattle.vec2.specs.Vec2.{same_as}
 use Rattle.vec2.specs.Points.{points_in}
@@ -8,8 +8,5 @@ use Rattle.turns.specs.Plane.{floats as plane}
 use Rattle.turns.specs.Walk.{at, seek, next}
 use Rattle.polygon.proofs.next_other.Given as goal
 
-abbrev pub invariant-loop-left : goal.invariant-loop-left
-invariant-loop-left l = (l.k < l.n) × (l.n ≡ length l.fn.points / 2) × (seek plane (points_in l.fn.points) l.left (same_as (at plane (points_in l.fn.points) l.k) l.fn.b) l.fn.b l.k ≡ next plane (points_in l.fn.points) l.fn.b l.fn.from)
-
-abbrev pub decreases-loop-left : goal.decreases-loop-left
-decreases-loop-left l = l.left
+abbrev pub invariant-loop-passed : goal.invariant-loop-passed
+invariant-loop-passed l = (l.k < l.n) × (l.n ≡ length l.fn.points / 2) × (seek plane (points_in l.fn.points) (l.n - l._passed) (same_as (at plane (points_in l.fn.points) l.k) l.fn.b) l.fn.b l.k ≡ next plane (points_in l.fn.points) l.fn.b l.fn.from)

@@ -1,5 +1,5 @@
 -- `walk` meets its contract. The loop's invariant: judging the junctions that are left from the present tally gives what judging all gives. Assumes nothing.
-use mathlib.Core.Path.{refl, sym, ap, ◌∙◌}
+use mathlib.Core.Path.{sym, ap, ◌∙◌}
 use native.Mathlib.Omega.{arith}
 use native.Mathlib.Nat.{sub-zero}
 use Rattle.vec2.specs.Points.{points_in}
@@ -13,74 +13,52 @@ use Rattle.polygon.proofs.walk.Goals as goal
 
 pub loop-i-init : goal.loop-i-init
 unfolding walked junctions ahead
-loop-i-init c = (omega arith, refl, omega arith, omega arith, rw (length-points_in, sub-zero))
-
-pub same-requires : goal.same-requires
-same-requires c = tt
+loop-i-init c = (omega arith, omega arith, rw (length-points_in, sub-zero))
 
 pub next_other-k-requires : goal.next_other-k-requires
 next_other-k-requires c = c.around.ensures.1
 
-pub turn_at-turned-requires : goal.turn_at-turned-requires
-turn_at-turned-requires c = tt
-
-pub opposes-requires : goal.opposes-requires
-opposes-requires c = tt
-
 pub returns-then-opposes : goal.returns-then-opposes
 returns-then-opposes c =
-    let e = c.before.before.before in
-    let d = e.before.before in
-    let q = d.before.before in
-    let j = q.before.before.before in
-    let l = j.loop-i in
-    let h = j.loop-i-test.true in
-    let fs = j.args.points.now in
-    let a = read fs _ _ h q.point_at-a.ensures in
-    let b = read fs _ _ j.around-j.ensures.1 q.point_at-b.ensures in
-    on_opposed plane (points_in fs) _ (length-points_in fs) l.t l.i _ h j.around-j.ensures.0 _ l.invariant.4 _ _ a b
-    (omega arith) (sym q.same.ensures ∙ d.if-not-same.true)
-    _ d.around.ensures.0 _ e.next_other-k.ensures.0 _ (read fs _ _ e.next_other-k.ensures.1 e.point_at-c.ensures)
+    let l = c.loop-i in
+    let h = c.loop-i-test.true in
+    let fs = c.args.points.now in
+    let a = read fs _ _ h c.point_at-a.ensures in
+    let b = read fs _ _ c.around-j.ensures.1 c.point_at-b.ensures in
+    on_opposed plane (points_in fs) _ (length-points_in fs) l.t l.i _ h c.around-j.ensures.0 _ l.invariant.2 _ _ a b
+    (omega arith) (sym c.same.ensures ∙ c.if-not-same.true)
+    _ c.around.ensures.0 _ c.next_other-k.ensures.0 _ (read fs _ _ c.next_other-k.ensures.1 c.point_at-c.ensures)
     _ c.turn_at-turned.ensures.0 (sym c.opposes.ensures ∙ c.if-opposes.true)
 
 pub loop-i-preserved : goal.loop-i-preserved
 loop-i-preserved c =
-    let q = c.before in
-    let j = q.before.before.before in
-    let l = j.loop-i in
-    let h = j.loop-i-test.true in
-    let fs = j.args.points.now in
-    let a = read fs _ _ h q.point_at-a.ensures in
-    let b = read fs _ _ j.around-j.ensures.1 q.point_at-b.ensures in
+    let l = c.loop-i in
+    let h = c.loop-i-test.true in
+    let fs = c.args.points.now in
+    let a = read fs _ _ h c.point_at-a.ensures in
+    let b = read fs _ _ c.around-j.ensures.1 c.point_at-b.ensures in
     elim c.if-not-same.branch [
       | then-not-same+else-opposes w ↦
           let u = w.t-is ∙ w.count-t.ensures in
           let most = counted_most l.t _ w.turn_at-turned.result u w.turn_at-turned.ensures.1 in (
-            omega arith,
-            refl,
-            omega (arith, most.0, l.invariant.2),
-            omega (arith, most.1, l.invariant.3),
-            on_counted plane (points_in fs) _ (length-points_in fs) l.t l.i _ h j.around-j.ensures.0 _ l.invariant.4 _ _ a b
-                (omega (arith, j.requires.0)) (sym q.same.ensures ∙ w.if-not-same.true)
+            omega (arith, most.0, l.invariant.0),
+            omega (arith, most.1, l.invariant.1),
+            on_counted plane (points_in fs) _ (length-points_in fs) l.t l.i _ h c.around-j.ensures.0 _ l.invariant.2 _ _ a b
+                (omega (arith, c.requires.0)) (sym c.same.ensures ∙ w.if-not-same.true)
                 _ w.around.ensures.0 _ w.next_other-k.ensures.0 _ (read fs _ _ w.next_other-k.ensures.1 w.point_at-c.ensures)
                 _ w.turn_at-turned.ensures.0 _ (sym w.opposes.ensures ∙ w.if-opposes.false) u,
           )
       | else-not-same w ↦ (
-        omega arith,
-        refl,
-        omega (arith, ap (λ (t : Tally). t.left) w.t-is, l.invariant.2),
-        omega (arith, ap (λ (t : Tally). t.right) w.t-is, l.invariant.3),
+        omega (arith, ap (λ (t : Tally). t.left) w.t-is, l.invariant.0),
+        omega (arith, ap (λ (t : Tally). t.right) w.t-is, l.invariant.1),
         rw w.t-is
-            (on_none plane (points_in fs) _ (length-points_in fs) l.t l.i _ h j.around-j.ensures.0 _ l.invariant.4 _ _ a b
-            (sym q.same.ensures ∙ w.if-not-same.false)),
+            (on_none plane (points_in fs) _ (length-points_in fs) l.t l.i _ h c.around-j.ensures.0 _ l.invariant.2 _ _ a b
+            (sym c.same.ensures ∙ w.if-not-same.false)),
       )
     ]
-
-pub end-requires : goal.end-requires
-end-requires c = tt
 
 pub returns : goal.returns
 returns c =
     let l = c.loop-i in
     let fs = c.args.points.now in
-    c.end.ensures ∙ on_end plane (points_in fs) _ (length-points_in fs) l.t l.i c.loop-i-test.false _ l.invariant.4
+    c.end.ensures ∙ on_end plane (points_in fs) _ (length-points_in fs) l.t l.i c.loop-i-test.false _ l.invariant.2

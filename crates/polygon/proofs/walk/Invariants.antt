@@ -1,6 +1,6 @@
 -- `walk` meets its contract. The loop's invariant: judging the junctions that are left from the present tally gives what judging all gives. Assumes nothing.
 use mathlib.Core.Path.{◌≡◌}
-use Prim.Native.Nat.{◌-◌, ◌*◌, ◌/◌, ◌≤◌}
+use Prim.Native.Nat.{◌*◌, ◌/◌, ◌≤◌}
 use lib.ListN.{length}
 use Rattle.vec2.specs.Points.{points_in}
 use Rattle.vec2.proofs.Points.{length-points_in}
@@ -10,8 +10,5 @@ use Rattle.turns.proofs.Walks.{ahead}
 use Rattle.polygon.proofs.walk.Given as goal
 
 abbrev pub invariant-loop-i : goal.invariant-loop-i
-invariant-loop-i l = (l.i ≤ l.n) × (l.n ≡ length l.fn.points / 2) × (l.t.left ≤ 3 * l.i) × (l.t.right ≤ 3 * l.i)
+invariant-loop-i l = (l.t.left ≤ 3 * l.i) × (l.t.right ≤ 3 * l.i)
     × (judge plane l.t (ahead plane (points_in l.fn.points) (length l.fn.points / 2) (length-points_in l.fn.points) l.i) ≡ walked plane (points_in l.fn.points))
-
-abbrev pub decreases-loop-i : goal.decreases-loop-i
-decreases-loop-i l = l.n - l.i
