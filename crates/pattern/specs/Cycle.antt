@@ -1,11 +1,10 @@
 -- A pattern's tests and its working cycle (`is_usable`, `cycle`, dash.rs; "Dash" of the scope). Definitions only.
-use Rattle.std.specs.Prelude.{ℕ, ◌%◌, ◌≡◌, ◌⊎◌, Bool, true, false, ◌&&◌, cond, List, [], ◌∷◌, ◌++◌, length, replicate, eqb, Float}
-use Rattle.std.proofs.lemmas.List.Edits.{sets}
+use Rattle.std.specs.Prelude.{ℕ, ◌%◌, ◌≡◌, ◌⊎◌, Bool, true, false, ◌&&◌, cond, List, [], ◌∷◌, ◌++◌, length, eqb, fold, Float}
+use Rattle.std.specs.List.{list_all}
 use Rattle.std.specs.Float.{binary32}
 use Rattle.std.specs.Float.Ieee.{of_bits, lt, le}
 use Rattle.float.specs.Arith.{plus, f0}
 use Rattle.float.specs.Small.{is_finite}
-use Rattle.pattern.specs.declared.Cycle.{Cycle}
 
 -- the most intervals of a pattern, and of its working cycle
 abbrev pub max_intervals : ℕ
@@ -18,22 +17,16 @@ max_cycle = 128
 abbrev pub cycle_of : List Float → List Float
 cycle_of ps = cond (eqb (length ps % 2) 0) ps (ps ++ ps)
 
--- the array that holds it: zeros behind it, and how many intervals it has
-abbrev pub working_cycle : List Float → Cycle
-working_cycle ps = record { values = sets (replicate max_cycle f0) 0 (cycle_of ps); len = length (cycle_of ps) }
-
 -- added first to last, from s on
 abbrev pub sum_from : Float → List Float → Float
-sum_from s [] = s
-sum_from s (x ∷ xs) = sum_from (plus s x) xs
+sum_from s xs = fold plus s xs
 
 -- finite and 0 or more
 abbrev pub good_interval : Float → Bool
 good_interval x = is_finite x && le f0 x
 
 abbrev pub all_good : List Float → Bool
-all_good [] = true
-all_good (x ∷ xs) = good_interval x && all_good xs
+all_good xs = list_all good_interval xs
 
 -- not empty
 abbrev pub some : List Float → Bool
