@@ -1,11 +1,11 @@
 -- Demand 3's flattening half over a list of segments (`kept`), and over the answer and the outputs of a call that is not refused (`call_kept`).
 -- Assumes nothing.
 use mathlib.Core.Path.{◌≡◌, refl, sym, ap, ◌∙◌}
-use mathlib.Core.Bool.{Bool, true, false, not, ◌||◌, cond}
+use mathlib.Core.Bool.{Bool, true, false, ◌||◌, cond}
 use mathlib.Core.List.{List, map}
-use Prim.Native.Nat.{ℕ, zero, suc, ◌*◌, ◌/◌, ◌%◌, ◌≤◌}
+use Prim.Native.Nat.{ℕ, ◌*◌, ◌/◌, ◌%◌, ◌≤◌}
 use native.Mathlib.Omega.{arith}
-use borrow.Author.Tests.{ltb-false, eqb-false}
+use borrow.Author.Tests.{ltb-false}
 use lib.Dec.{ltb, eqb}
 use lib.ListN.{length, take}
 use lib.Ieee.{Float}
@@ -16,10 +16,15 @@ use Rattle.vec2.proofs.Tests.{first_false}
 use Rattle.path.specs.declared.Segment.{Segment}
 use Rattle.path.specs.declared.Segment.TheVariants.{Move, Line, Quad, Cubic, Close}
 use Rattle.path.specs.Segment.{segments}
-use Rattle.path.specs.Check.{bad_path}
+use Rattle.std.specs.Prelude.{Result, Ok, Err}
+use Rattle.std.specs.Result.{result_and}
+use Rattle.path.specs.declared.Refusal.{Refusal}
+use Rattle.path.specs.declared.Refusal.TheVariants.{OddFloats, OutputFull}
+use Rattle.path.specs.Check.{check}
+use Rattle.polyline.specs.declared.Flattened.{Flattened}
 use Rattle.curve.proofs.Numbers.{held_for}
 use Rattle.polyline.specs.declared.Spot.{Spot}
-use Rattle.polyline.specs.Flatten.{nowhere, spot, places, is_held, points_out, ends_out, totals, flat_refusal, Outcome, replied, flatten}
+use Rattle.polyline.specs.Flatten.{nowhere, spot, places, is_held, points_out, ends_out, totals, check_outputs, Outcome, replied, flatten}
 use Rattle.polyline.specs.Kept.{HeldAt, Kept}
 use Rattle.polyline.specs.Subpaths.{subpaths, with_drawn, mark_of, marks_out}
 use Rattle.polyline.proofs.Polylines.{subpath_polylines, ends_rise, marks_ends}
@@ -65,25 +70,25 @@ kept tol ss =
 
 -- ---- a call that is not refused
 
-fits : (a b d : Bool) (n : ℕ) → eqb n 0 ≡ b → ◌≡◌ {A = ℕ} (cond a 1 (cond (not b) n (cond d 3 0))) 0 → d ≡ false
-fits true b d n e h = absurd (omega arith)
-fits false true true n e h = absurd (omega arith)
-fits false true false n e h = refl
-fits false false d n e h = absurd (eqb-false n 0 e h)
+fits : (a d : Bool) (r : Result Unit Refusal) → ◌≡◌ {A = Result Unit Refusal} (cond a (Err OddFloats) (result_and r (cond d (Err OutputFull) (Ok tt)))) (Ok tt) → d ≡ false
+fits true d r h = absurd (cc)
+fits false d (Err e) h = absurd (cc)
+fits false true (Ok u) h = absurd (cc)
+fits false false (Ok u) h = refl
 
--- the points and the ends that the outputs hold
-pub record Filled (vs : List ℕ) (fs : List Float) (tol : Float) (r : Outcome) : Type 0 where
-  pub answer : r.answer ≡ totals tol (segments vs fs)
-  pub points : points_in (take (2 * r.answer.points) r.floats) ≡ points_out tol (segments vs fs)
-  pub polys : take r.answer.polylines r.ends ≡ ends_out tol (segments vs fs)
-  pub marks : take r.answer.polylines r.marks ≡ marks_out (segments vs fs)
+-- the points and the ends that the outputs hold, and the totals
+pub record Filled (vs : List ℕ) (fs : List Float) (tol : Float) (t : Flattened) (r : Outcome) : Type 0 where
+  pub totals : t ≡ totals tol (segments vs fs)
+  pub points : points_in (take (2 * t.points) r.floats) ≡ points_out tol (segments vs fs)
+  pub polys : take t.polylines r.ends ≡ ends_out tol (segments vs fs)
+  pub marks : take t.polylines r.marks ≡ marks_out (segments vs fs)
 
 module _ (vs : List ℕ) (fs : List Float) (tol : Float) (out : List Float) (es ms : List ℕ) where
-  room : flat_refusal vs fs tol out es ms ≡ 0 →
+  room : check_outputs vs fs tol out es ms ≡ Ok tt →
       (2 * length (points_out tol (segments vs fs)) ≤ length out) × (length (ends_out tol (segments vs fs)) ≤ length es) × (length (marks_out (segments vs fs)) ≤ length ms)
-  unfolding flat_refusal
+  unfolding check_outputs
   room h =
-      let d = fits (eqb (length out % 2) 1) _ (ltb (length out / 2) (length (points_out tol (segments vs fs))) || (ltb (length es) (length (ends_out tol (segments vs fs))) || ltb (length ms) (length (marks_out (segments vs fs))))) (bad_path vs fs) refl h in
+      let d = fits (eqb (length out % 2) 1) (ltb (length out / 2) (length (points_out tol (segments vs fs))) || (ltb (length es) (length (ends_out tol (segments vs fs))) || ltb (length ms) (length (marks_out (segments vs fs))))) (check vs fs) h in
       let r = first_false (ltb (length out / 2) (length (points_out tol (segments vs fs)))) _ d in
       let q = first_false (ltb (length es) (length (ends_out tol (segments vs fs)))) (ltb (length ms) (length (marks_out (segments vs fs)))) r.1 in (
         omega (arith, ltb-false (length out / 2) (length (points_out tol (segments vs fs))) r.0),
@@ -91,12 +96,14 @@ module _ (vs : List ℕ) (fs : List Float) (tol : Float) (out : List Float) (es 
         ltb-false (length ms) (length (marks_out (segments vs fs))) q.1,
       )
 
-  filled_by : (n : ℕ) → flat_refusal vs fs tol out es ms ≡ n →
-      (replied n tol (segments vs fs) out es ms).answer.refused ≡ 0 → Filled vs fs tol (replied n tol (segments vs fs) out es ms)
-  filled_by zero e h =
+  filled_by : (a : Result Unit Refusal) (t : Flattened) → check_outputs vs fs tol out es ms ≡ a →
+      (replied a tol (segments vs fs) out es ms).answer ≡ Ok t → Filled vs fs tol t (replied a tol (segments vs fs) out es ms)
+  filled_by (Ok u) t e h =
       let r = room e in
-      record {
-        answer = refl;
+      let is : t ≡ totals tol (segments vs fs) = cc in
+      rw is
+      (record {
+        totals = refl;
         points =
             ap points_in
             (front out (flat (points_out tol (segments vs fs))) (2 * length (points_out tol (segments vs fs)))
@@ -104,16 +111,16 @@ module _ (vs : List ℕ) (fs : List Float) (tol : Float) (out : List Float) (es 
             ∙ points_in-flat (points_out tol (segments vs fs));
         polys = front es (ends_out tol (segments vs fs)) (length (ends_out tol (segments vs fs))) refl r.1;
         marks = front ms (marks_out (segments vs fs)) (length (ends_out tol (segments vs fs))) (sym (marks_ends tol (segments vs fs))) r.2;
-      }
-  filled_by (suc n) e h = absurd (omega arith)
+      })
+  filled_by (Err r) t e h = absurd (cc)
 
-  pub filled : (flatten vs fs tol out es ms).answer.refused ≡ 0 → Filled vs fs tol (flatten vs fs tol out es ms)
+  pub filled : (t : Flattened) → (flatten vs fs tol out es ms).answer ≡ Ok t → Filled vs fs tol t (flatten vs fs tol out es ms)
   unfolding flatten
-  filled h = filled_by (flat_refusal vs fs tol out es ms) refl h
+  filled t h = filled_by (check_outputs vs fs tol out es ms) t refl h
 
-  pub call_kept : (flatten vs fs tol out es ms).answer.refused ≡ 0 →
+  pub call_kept : (t : Flattened) → (flatten vs fs tol out es ms).answer ≡ Ok t →
       let r : Outcome = flatten vs fs tol out es ms in
-      Kept tol (segments vs fs) r.answer (points_in (take (2 * r.answer.points) r.floats)) (take r.answer.polylines r.ends) (take r.answer.polylines r.marks)
-  call_kept h =
-      let f = filled h in
-      rw (f.points, f.polys, f.marks, f.answer) (kept tol (segments vs fs))
+      Kept tol (segments vs fs) t (points_in (take (2 * t.points) r.floats)) (take t.polylines r.ends) (take t.polylines r.marks)
+  call_kept t h =
+      let f = filled t h in
+      rw (f.points, f.polys, f.marks, f.totals) (kept tol (segments vs fs))

@@ -2,12 +2,14 @@
 use mathlib.Core.Path.{◌≡◌, refl, sym, ap, ◌∙◌}
 use mathlib.Core.Bool.{true, false, cond, false≢true}
 use mathlib.Core.List.{List, [], ◌∷◌, ◌++◌, append_assoc, append-nil}
-use Prim.Native.Nat.{ℕ, zero, suc}
+use Prim.Native.Nat.{ℕ}
+use Rattle.std.specs.Prelude.{Result, Ok, Err}
+use Rattle.path.specs.declared.Refusal.{Refusal}
 use lib.Ieee.{Float}
 use Rattle.path.specs.declared.Segment.{Segment}
 use Rattle.path.specs.declared.Segment.TheVariants.{Move, Line, Quad, Cubic, Close}
 use Rattle.path.specs.Segment.{is_close, segments}
-use Rattle.polyline.specs.Flatten.{only_if, flat_refusal, replied, flatten}
+use Rattle.polyline.specs.Flatten.{only_if, check_outputs, replied, flatten}
 use Rattle.polyline.specs.Subpaths.{subpaths, any_drawn, with_drawn, mark_of, marks_out, Subpath, AllSubpaths}
 use Rattle.polyline.specs.Laws.{begins_with_move, SubpathLaws, RefusalLaws}
 use Rattle.polyline.proofs.Subpaths.{subpaths_join, subpaths_are, closed_more_lem, marks_are, marks_verbs, marks_cut, marks_one}
@@ -71,24 +73,12 @@ subpath_laws tol ss =
 
 -- ---- refusals
 
-replied_laws : (n : ℕ) (tol : Float) (ss : List Segment) (out : List Float) (es ms : List ℕ) →
-    ((replied n tol ss out es ms).answer.refused ≡ 0 → ⊥) → RefusalLaws out es ms (replied n tol ss out es ms)
-replied_laws zero tol ss out es ms h = absurd (h refl)
-replied_laws (suc n) tol ss out es ms h =
-    record {
-      points = refl;
-      polylines = refl;
-      starts = refl;
-      lines = refl;
-      counts = refl;
-      closings = refl;
-      held = refl;
-      same_floats = refl;
-      same_ends = refl;
-      same_marks = refl;
-    }
+replied_laws : (a : Result Unit Refusal) (tol : Float) (ss : List Segment) (out : List Float) (es ms : List ℕ) (e : Refusal) →
+    (replied a tol ss out es ms).answer ≡ Err e → RefusalLaws out es ms (replied a tol ss out es ms)
+replied_laws (Ok u) tol ss out es ms e h = absurd (cc)
+replied_laws (Err r) tol ss out es ms e h = record { none = λ t q. absurd (cc); same_floats = refl; same_ends = refl; same_marks = refl }
 
-pub refusal_laws : (vs : List ℕ) (fs : List Float) (tol : Float) (out : List Float) (es ms : List ℕ) →
-    ((flatten vs fs tol out es ms).answer.refused ≡ 0 → ⊥) → RefusalLaws out es ms (flatten vs fs tol out es ms)
+pub refusal_laws : (vs : List ℕ) (fs : List Float) (tol : Float) (out : List Float) (es ms : List ℕ) (e : Refusal) →
+    (flatten vs fs tol out es ms).answer ≡ Err e → RefusalLaws out es ms (flatten vs fs tol out es ms)
 unfolding flatten
-refusal_laws vs fs tol out es ms h = replied_laws (flat_refusal vs fs tol out es ms) tol (segments vs fs) out es ms h
+refusal_laws vs fs tol out es ms e h = replied_laws (check_outputs vs fs tol out es ms) tol (segments vs fs) out es ms e h

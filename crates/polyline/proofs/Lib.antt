@@ -1,6 +1,5 @@
 pub mod Examples
 pub mod Points
-pub mod Good
 pub mod Lengths
 pub mod Counts
 pub mod Ends

@@ -16,13 +16,14 @@ use Rattle.vec2.specs.Points.{point_at}
 use Rattle.path.specs.declared.Segment.{Segment}
 use Rattle.path.specs.declared.Segment.TheVariants.{Move, Line, Quad, Cubic, Close}
 use Rattle.path.specs.Segment.{is_drawn, end_of, segs_from, segments}
-use Rattle.path.specs.Check.{bad_path}
+use Rattle.std.specs.Prelude.{Ok}
+use Rattle.path.specs.Check.{check}
 use Rattle.polyline.specs.declared.Spot.{Spot}
 use Rattle.polyline.specs.Flatten.{drawn_to, after, close_adds, places, body, only_if, writes, written, endings, points_out, ends_out}
 use Rattle.polyline.specs.Polylines.{polylines, kept, last_of, closing, source_from, source}
 use Rattle.polyline.proofs.Lengths.{Own, own}
 use Rattle.polyline.proofs.Ends.{writes_drawn}
-use Rattle.polyline.proofs.Good.{sound}
+use Rattle.path.proofs.Checks.{sound}
 
 -- ---- the source's `current`, once its polyline has a drawn verb: a, what lies between, and l
 
@@ -158,7 +159,7 @@ pub from_move : (tol : Float) (p : Vec2) (ss : List Segment) →
 unfolding written endings after writes body source_from source
 from_move tol p ss = (agree tol ss).0 p p p 0
 
-pub as_source : (vs : List ℕ) (fs : List Float) (tol : Float) → bad_path vs fs ≡ 0 →
+pub as_source : (vs : List ℕ) (fs : List Float) (tol : Float) → check vs fs ≡ Ok tt →
     polylines 0 (points_out tol (segments vs fs)) (ends_out tol (segments vs fs)) ≡ source tol (segments vs fs)
 unfolding written endings source_from source
 as_source [] fs tol h = refl

@@ -1,6 +1,7 @@
 -- Flattening: `flatten` of flatten.rs over the segments of a path ("Flatten" of the scope). What a segment writes depends on four things of what
 -- stands before it, so the points are what the segments write, one after the other. Definitions only.
-use Rattle.std.specs.Prelude.{ℕ, zero, suc, pred, ◌+◌, ◌/◌, ◌%◌, Bool, true, false, not, ◌&&◌, ◌||◌, cond, List, [], ◌∷◌, ◌++◌, length, ltb, eqb, Float}
+use Rattle.std.specs.Prelude.{ℕ, zero, suc, pred, ◌+◌, ◌/◌, ◌%◌, Bool, true, false, not, ◌&&◌, ◌||◌, cond, List, [], ◌∷◌, ◌++◌, length, ltb, eqb, Float, Result, Ok, Err}
+use Rattle.std.specs.Result.{result_and}
 use Rattle.std.proofs.lemmas.List.Edits.{sets}
 use Rattle.vec2.specs.declared.Vec2.{Vec2}
 use Rattle.vec2.specs.Vec2.{origin, same_as}
@@ -8,13 +9,14 @@ use Rattle.vec2.specs.Points.{flat}
 use Rattle.path.specs.declared.Segment.{Segment}
 use Rattle.path.specs.declared.Segment.TheVariants.{Move, Line, Quad, Cubic, Close}
 use Rattle.path.specs.Segment.{is_drawn, is_move, is_line, is_curve, is_close, segments}
-use Rattle.path.specs.Check.{bad_path}
+use Rattle.path.specs.declared.Refusal.{Refusal}
+use Rattle.path.specs.declared.Refusal.TheVariants.{OddFloats, OutputFull}
+use Rattle.path.specs.Check.{check}
 use Rattle.float.specs.declared.SegmentCount.{SegmentCount}
 use Rattle.float.specs.Count.{held_back}
 use Rattle.curve.specs.Count.{quad_s, cubic_s, quad_count, cubic_count, eval_quad, eval_cubic, param}
 use Rattle.polyline.specs.declared.Spot.{Spot}
 use Rattle.polyline.specs.declared.Flattened.{Flattened}
-use Rattle.polyline.specs.declared.Carried.{Carried}
 use Rattle.polyline.specs.Subpaths.{marks_out}
 
 -- ---- where the flattening stands
@@ -164,39 +166,35 @@ totals tol ss =
       counts = counts tol ss;
       closings = added_closings ss;
       held = held_curves tol ss;
-      refused = 0;
     }
 
 -- ---- the call
 
 -- 1 for an output with an odd number of floats comes with the path's own 1; 3, for the points, the ends or the marks (W4), comes last
-unfoldable pub flat_refusal : List ℕ → List Float → Float → List Float → List ℕ → List ℕ → ℕ
-flat_refusal vs fs tol out ends marks =
+unfoldable pub check_outputs : List ℕ → List Float → Float → List Float → List ℕ → List ℕ → Result Unit Refusal
+check_outputs vs fs tol out ends marks =
     let ss = segments vs fs in
-    cond (eqb (length out % 2) 1) 1
-    (cond (not (eqb (bad_path vs fs) 0)) (bad_path vs fs)
-    (cond (ltb (length out / 2) (length (points_out tol ss)) || (ltb (length ends) (length (ends_out tol ss)) || ltb (length marks) (length (marks_out ss)))) 3 0))
+    cond (eqb (length out % 2) 1) (Err OddFloats)
+    (result_and (check vs fs)
+    (cond (ltb (length out / 2) (length (points_out tol ss)) || (ltb (length ends) (length (ends_out tol ss)) || ltb (length marks) (length (marks_out ss)))) (Err OutputFull) (Ok tt)))
 
 -- the entire reply and the three lent outputs
 pub record Outcome : Type 0 where
-  pub answer : Flattened
+  pub answer : Result Flattened Refusal
   pub floats : List Float
   pub ends : List ℕ
   pub marks : List ℕ
 
-abbrev pub outcome : Flattened → List Float → List ℕ → List ℕ → Outcome
+abbrev pub outcome : Result Flattened Refusal → List Float → List ℕ → List ℕ → Outcome
 outcome a fs es ms = record { answer = a; floats = fs; ends = es; marks = ms }
 
-abbrev pub refused_by : ℕ → Flattened
-refused_by n = record { points = 0; polylines = 0; starts = 0; lines = 0; counts = 0; closings = 0; held = 0; refused = n }
-
--- by the refusal's number
-abbrev pub replied : ℕ → Float → List Segment → List Float → List ℕ → List ℕ → Outcome
-replied zero tol ss out ends marks = outcome (totals tol ss) (sets out 0 (flat (points_out tol ss))) (sets ends 0 (ends_out tol ss)) (sets marks 0 (marks_out ss))
-replied (suc n) tol ss out ends marks = outcome (refused_by (suc n)) out ends marks
+-- written, unless the call is refused
+abbrev pub replied : Result Unit Refusal → Float → List Segment → List Float → List ℕ → List ℕ → Outcome
+replied (Ok u) tol ss out ends marks = outcome (Ok (totals tol ss)) (sets out 0 (flat (points_out tol ss))) (sets ends 0 (ends_out tol ss)) (sets marks 0 (marks_out ss))
+replied (Err r) tol ss out ends marks = outcome (Err r) out ends marks
 
 unfoldable pub flatten : List ℕ → List Float → Float → List Float → List ℕ → List ℕ → Outcome
-flatten vs fs tol out ends marks = replied (flat_refusal vs fs tol out ends marks) tol (segments vs fs) out ends marks
+flatten vs fs tol out ends marks = replied (check_outputs vs fs tol out ends marks) tol (segments vs fs) out ends marks
 
 -- ---- a carried count
 
@@ -214,9 +212,5 @@ count_at tol w [] j = no_count
 count_at tol w (s ∷ ss) zero = curve_answer tol w s
 count_at tol w (s ∷ ss) (suc j) = count_at tol (after w s) ss j
 
-abbrev pub carried_by : ℕ → SegmentCount → Carried
-carried_by zero c = record { count = c.count; held = c.held; refused = 0 }
-carried_by (suc n) c = record { count = 0; held = false; refused = suc n }
-
-unfoldable pub carried_count : List ℕ → List Float → Float → ℕ → Carried
-carried_count vs fs tol j = carried_by (bad_path vs fs) (count_at tol nowhere (segments vs fs) j)
+unfoldable pub carried_count : List ℕ → List Float → Float → ℕ → Result SegmentCount Refusal
+carried_count vs fs tol j = result_and (check vs fs) (Ok (count_at tol nowhere (segments vs fs) j))

@@ -1,7 +1,8 @@
 -- W4: what holds of the subpaths of any list of segments, of its flattening at any tolerance, and of the marks; and what a refused call says. Definitions only.
-use Rattle.std.specs.Prelude.{◌≡◌, ℕ, Bool, true, false, cond, List, [], ◌∷◌, ◌++◌, map, length, Float}
+use Rattle.std.specs.Prelude.{◌≡◌, ℕ, Bool, true, false, cond, List, [], ◌∷◌, ◌++◌, map, length, Float, Ok}
 use Rattle.path.specs.declared.Segment.{Segment}
 use Rattle.path.specs.Segment.{is_move, is_close, bytes_of}
+use Rattle.polyline.specs.declared.Flattened.{Flattened}
 use Rattle.polyline.specs.Flatten.{nowhere, points_out, ends_out, Outcome}
 use Rattle.polyline.specs.Polylines as poly
 use Rattle.polyline.specs.Polylines.{end_to_end, ends_of, Rising}
@@ -36,15 +37,9 @@ pub record SubpathLaws (tol : Float) (ss : List Segment) : Type 0 where
   -- and one pass reads them
   pub one_pass : marks_out ss ≡ marks_from false nowhere ss
 
--- a refused call says its number and nothing else, and leaves the three lent outputs as they were
+-- a refused call says its number and nothing else, no totals among it, and leaves the three lent outputs as they were
 pub record RefusalLaws (out : List Float) (ends marks : List ℕ) (r : Outcome) : Type 0 where
-  pub points : r.answer.points ≡ 0
-  pub polylines : r.answer.polylines ≡ 0
-  pub starts : r.answer.starts ≡ 0
-  pub lines : r.answer.lines ≡ 0
-  pub counts : r.answer.counts ≡ 0
-  pub closings : r.answer.closings ≡ 0
-  pub held : r.answer.held ≡ 0
+  pub none : (t : Flattened) → r.answer ≡ Ok t → ⊥
   pub same_floats : r.floats ≡ out
   pub same_ends : r.ends ≡ ends
   pub same_marks : r.marks ≡ marks

@@ -4,9 +4,8 @@
 
 use vec2::Vec2;
 
-// The answer: the totals, how many curves were held back (W2), and the refusal's number, 0 for none. In a refusal all others are 0.
-#[repr(C)]
-#[derive(Clone, Copy)]
+// The answer: the totals, and how many curves were held back (W2).
+#[derive(Clone, Copy, PartialEq, Eq)]
 pub struct Flattened {
     pub points: usize,
     pub polylines: usize,
@@ -15,16 +14,6 @@ pub struct Flattened {
     pub counts: usize,
     pub closings: usize,
     pub held: usize,
-    pub refused: u8,
-}
-
-// A carried count and whether it was held back, or the refusal's number beside 0 and false.
-#[repr(C)]
-#[derive(Clone, Copy)]
-pub struct Carried {
-    pub count: usize,
-    pub held: bool,
-    pub refused: u8,
 }
 
 // Where a flattening stands: the latest move's point, with which its polyline begins; the point that the next verb is drawn from; the point written
