@@ -1,6 +1,6 @@
 -- An answer's number and values tell its case, and how dashing's outcome follows from its tests. Assumes nothing.
 use mathlib.Core.Path.{◌≡◌, refl, sym, ◌∙◌, ap}
-use Prim.Native.Nat.{ℕ, zero, suc, ◌/◌, ◌%◌, ◌≤◌, ◌<◌}
+use Prim.Native.Nat.{ℕ, ◌/◌, ◌%◌, ◌≤◌, ◌<◌}
 use native.Mathlib.Omega.{arith}
 use mathlib.Core.Bool.{Bool, true, false, cond, ◌&&◌, true≢false}
 use mathlib.Core.List.{List, [], ◌∷◌, ◌++◌}
@@ -17,35 +17,36 @@ use Rattle.vec2.proofs.Points.{length-flat, points_in-flat}
 use Rattle.path.specs.declared.Segment.{Segment}
 use Rattle.path.specs.declared.FillRule.{FillRule}
 use Rattle.path.specs.Segment.{segments}
-use Rattle.path.specs.Check.{bad_path}
+use Rattle.std.specs.Prelude.{Result, Ok, Err}
+use Rattle.std.specs.Result.{result_and}
+use Rattle.path.specs.declared.Refusal.{Refusal}
+use Rattle.path.specs.declared.Refusal.TheVariants.{OddFloats, OutputFull, LongPattern}
+use Rattle.path.specs.Check as path
+use Rattle.path.proofs.Refusals.{number_tells}
 use Rattle.polyline.specs.Flatten.{points_out, ends_out, held_curves}
 use Rattle.polyline.specs.Subpaths.{marks_out}
 use Rattle.pattern.specs.Cycle.{max_intervals, some, usable, cycle_of, sum_from, cuts}
-use Rattle.events.specs.declared.Pos.{Pos}
 use Rattle.events.specs.Phase.{start_of}
 use Rattle.outline.specs.declared.Dashed.{Dashed}
-use Rattle.outline.specs.declared.Dashed.TheVariants.{Whole, Cut, Refused}
+use Rattle.outline.specs.declared.Dashed.TheVariants.{Whole, Cut}
 use Rattle.outline.specs.Answer.{Answer, refused_by, drawn_whole, cut_into, answer_of}
-use Rattle.outline.specs.Dash.{even, then_eight, refusal, walked, dashes, scratch_fits, fits_both, cut_outcome, out_if, out_outcome, Outcome, outcome, keeping, cutting, dashing}
+use Rattle.outline.specs.declared.Outline.{Outline}
+use Rattle.outline.specs.Dash.{even, check, walked, dashes, scratch_fits, fits_both, cut_outcome, out_if, out_outcome, Outcome, outcome, keeping, cutting, dashing}
 
 -- ---- the case
 
-pub answer_case : (a b : Dashed) → answer_of a ≡ answer_of b → a ≡ b
-answer_case Whole Whole h = refl
-answer_case Whole (Cut p) h = absurd (true≢false (ap (λ (z : Answer). z.whole) h))
-answer_case Whole (Refused m) h = absurd (true≢false (ap (λ (z : Answer). z.whole) h))
-answer_case (Cut o) Whole h = absurd (true≢false (sym (ap (λ (z : Answer). z.whole) h)))
-answer_case (Cut o) (Cut p) h = ap Cut (some-injective o p (ap (λ (z : Answer). z.cut) h))
-answer_case (Cut o) (Refused m) h = absurd (none-ne-some o (sym (ap (λ (z : Answer). z.cut) h)))
-answer_case (Refused n) Whole h = absurd (true≢false (sym (ap (λ (z : Answer). z.whole) h)))
-answer_case (Refused n) (Cut p) h = absurd (none-ne-some p (ap (λ (z : Answer). z.cut) h))
-answer_case (Refused n) (Refused m) h = ap Refused (ap (λ (z : Answer). z.number) h)
+pub answer_case : (a b : Result Dashed Refusal) → answer_of a ≡ answer_of b → a ≡ b
+answer_case (Ok Whole) (Ok Whole) h = refl
+answer_case (Ok Whole) (Ok (Cut p)) h = absurd (true≢false (ap (λ (z : Answer). z.whole) h))
+answer_case (Ok Whole) (Err m) h = absurd (true≢false (ap (λ (z : Answer). z.whole) h))
+answer_case (Ok (Cut o)) (Ok Whole) h = absurd (true≢false (sym (ap (λ (z : Answer). z.whole) h)))
+answer_case (Ok (Cut o)) (Ok (Cut p)) h = ap (λ (q : Outline). Ok (Cut q)) (some-injective o p (ap (λ (z : Answer). z.cut) h))
+answer_case (Ok (Cut o)) (Err m) h = absurd (none-ne-some o (sym (ap (λ (z : Answer). z.cut) h)))
+answer_case (Err n) (Ok Whole) h = absurd (true≢false (sym (ap (λ (z : Answer). z.whole) h)))
+answer_case (Err n) (Ok (Cut p)) h = absurd (none-ne-some p (ap (λ (z : Answer). z.cut) h))
+answer_case (Err n) (Err m) h = ap (λ (r : Refusal). Err r) (number_tells n m (ap (λ (z : Answer). z.number) h))
 
 -- ---- refusals
-
-pub by_path : (n k : ℕ) → (n ≡ 0 → ⊥) → n ≡ then_eight n k
-by_path zero k h = absurd (h refl)
-by_path (suc n) k h = refl
 
 module _ (verbs : List ℕ) (points : List Float) (rule : FillRule) (intervals : List Float) (phase tolerance : Float) (scratch : List Float) (ends marks us : List ℕ) (gs : List Float) where
   abbrev ps : List Vec2
@@ -63,7 +64,7 @@ module _ (verbs : List ℕ) (points : List Float) (rule : FillRule) (intervals :
   -- ---- the scratch
 
   pub scratch_full : scratch_fits ps es ms scratch ends marks ≡ false → (s' : List Float) (e' m' : List ℕ) → s' ≡ scratch → e' ≡ ends → m' ≡ marks
-      → outcome (refused_by 3) s' e' m' us gs ≡ cutting verbs points rule intervals phase tolerance scratch ends marks us gs
+      → outcome (refused_by OutputFull) s' e' m' us gs ≡ cutting verbs points rule intervals phase tolerance scratch ends marks us gs
   scratch_full h s' e' m' p q r = rw (h, p, q, r)
 
   pub scratch_kept : scratch_fits ps es ms scratch ends marks ≡ true
@@ -80,38 +81,33 @@ module _ (verbs : List ℕ) (points : List Float) (rule : FillRule) (intervals :
 
   -- ---- the whole call
 
-  abbrev number : ℕ
-  number = refusal verbs points intervals (length scratch) (length gs)
+  abbrev checked : Result Unit Refusal
+  checked = check verbs points intervals (length scratch) (length gs)
 
-  pub is_refused : (n : ℕ) → n ≡ number → (n ≡ 0 → ⊥) → outcome (refused_by n) scratch ends marks us gs ≡ dashing verbs points rule intervals phase tolerance scratch ends marks us gs
-  is_refused zero h z = absurd (z refl)
-  is_refused (suc n) h z = rw (← h)
+  pub is_refused : (r : Refusal) → checked ≡ Err r → outcome (refused_by r) scratch ends marks us gs ≡ dashing verbs points rule intervals phase tolerance scratch ends marks us gs
+  is_refused r h = rw h
 
-  pub whole : 0 ≡ number → cuts intervals phase tolerance ≡ false → outcome drawn_whole scratch ends marks us gs ≡ dashing verbs points rule intervals phase tolerance scratch ends marks us gs
-  whole h k = rw (← h, k)
+  pub whole : checked ≡ Ok tt → cuts intervals phase tolerance ≡ false → outcome drawn_whole scratch ends marks us gs ≡ dashing verbs points rule intervals phase tolerance scratch ends marks us gs
+  whole h k = rw (h, k)
 
-  pub is_cut : 0 ≡ number → cuts intervals phase tolerance ≡ true → (o : Outcome)
+  pub is_cut : checked ≡ Ok tt → cuts intervals phase tolerance ≡ true → (o : Outcome)
       → o ≡ cutting verbs points rule intervals phase tolerance scratch ends marks us gs → o ≡ dashing verbs points rule intervals phase tolerance scratch ends marks us gs
-  is_cut h k o q = rw (← h, k) q
+  is_cut h k o q = rw (h, k) q
 
-  eight : (n k : ℕ) → 0 ≡ then_eight n k → (n ≡ 0) × (k ≤ max_intervals)
-  eight zero k h = (refl, go (ltb max_intervals k) refl h)
-    where
-      go : (b : Bool) → ltb max_intervals k ≡ b → ◌≡◌ {A = ℕ} 0 (cond b 8 0) → k ≤ max_intervals
-      go true e h = absurd (omega arith)
-      go false e h = ltb-false max_intervals k e
-  eight (suc n) k h = absurd (omega arith)
+  passes : (a b c : Bool) (r : Result Unit Refusal) (d : Bool) →
+      ◌≡◌ {A = Result Unit Refusal} (cond (a && (b && c)) (result_and r (cond d (Err LongPattern) (Ok tt))) (Err OddFloats)) (Ok tt) → (b ≡ true) × (r ≡ Ok tt) × (d ≡ false)
+  passes true true true (Ok u) false h = (refl, refl, refl)
+  passes true true true (Ok u) true h = absurd (cc)
+  passes true true true (Err e) d h = absurd (cc)
+  passes true true false r d h = absurd (cc)
+  passes true false c r d h = absurd (cc)
+  passes false b c r d h = absurd (cc)
 
   -- what is known where nothing is refused
-  pub none_refused : 0 ≡ number → (length scratch % 2 ≡ 0) × (bad_path verbs points ≡ 0) × (length intervals ≤ 64)
-  none_refused h = go (even (length points)) (even (length scratch)) (even (length gs)) refl h
-    where
-      go : (a b c : Bool) → even (length scratch) ≡ b → ◌≡◌ {A = ℕ} 0 (cond (a && (b && c)) (then_eight (bad_path verbs points) (length intervals)) 1)
-          → (length scratch % 2 ≡ 0) × (bad_path verbs points ≡ 0) × (length intervals ≤ 64)
-      go true true true e h = let z = eight (bad_path verbs points) (length intervals) h in (eqb-true _ _ e, z.0, z.1)
-      go true true false e h = absurd (omega arith)
-      go true false c e h = absurd (omega arith)
-      go false b c e h = absurd (omega arith)
+  pub none_refused : checked ≡ Ok tt → (length scratch % 2 ≡ 0) × (path.check verbs points ≡ Ok tt) × (length intervals ≤ 64)
+  none_refused h =
+      let p = passes (even (length points)) (even (length scratch)) (even (length gs)) (path.check verbs points) (ltb max_intervals (length intervals)) h in
+      (eqb-true _ _ p.0, p.1, ltb-false max_intervals (length intervals) p.2)
 
 -- ---- a pattern that is cut has an interval
 

@@ -21,6 +21,7 @@ use Rattle.events.specs.Walk.{walk_all}
 use Rattle.strokes.proofs.Lays.{walk_points}
 use Rattle.strokes.specs.Lay.{Out, out, laid, Room}
 use Rattle.strokes.specs.Count.{UpTo, itself}
+use Rattle.path.specs.declared.Refusal.TheVariants.{OutputFull}
 use Rattle.outline.specs.Answer.{refused_by, cut_into}
 use Rattle.outline.specs.Dash.{fits_both, out_fits, Cap, cut_outcome, out_if, out_outcome}
 
@@ -72,7 +73,7 @@ module _ (cs : List Float) (start : Pos) (ls : List (List Vec2)) (us : List ℕ)
   fits_is = rw one (c (length ss))
 
   module _ (np k held : ℕ) (rule : FillRule) where
-    pub too_many : cap < n → cut_outcome (refused_by 3) us gs ≡ out_outcome ss np k held rule us gs
+    pub too_many : cap < n → cut_outcome (refused_by OutputFull) us gs ≡ out_outcome ss np k held rule us gs
     too_many h = let e : out_fits ss us gs ≡ false = fits_is ∙ lt-leb (length ss) cap (u.over h) in ap (λ (b : Bool). out_if b ss np k held rule us gs) (sym e)
 
   module _ (h : n ≤ cap) where

@@ -1,7 +1,7 @@
 -- The filled part of the dash buffers is runs and nothing else, and what is not cut says that no curve was held back (W2), from the equation of `dash_path` alone.
 -- Assumes nothing.
 use mathlib.Core.Path.{◌≡◌, refl, sym, ◌∙◌, ap, subst}
-use Prim.Native.Nat.{ℕ, zero, suc, ◌*◌, ◌/◌, ◌≤◌}
+use Prim.Native.Nat.{ℕ, ◌*◌, ◌/◌, ◌≤◌}
 use native.Mathlib.Omega.{arith}
 use mathlib.Core.Bool.{Bool, true, false, ◌&&◌}
 use mathlib.Core.List.{List}
@@ -27,7 +27,9 @@ use Rattle.events.specs.Phase.{start_of}
 use Rattle.events.proofs.Runs.{all_runs}
 use Rattle.outline.specs.declared.Outline.{Outline}
 use Rattle.outline.specs.Answer.{cut_into}
-use Rattle.outline.specs.Dash.{refusal, dashes, scratch_fits, out_fits, outline_for, out_if, Outcome, keeping, kept_if, cutting, dashed_by, dashing}
+use Rattle.std.specs.Prelude.{Result, Ok, Err}
+use Rattle.path.specs.declared.Refusal.{Refusal}
+use Rattle.outline.specs.Dash.{check, dashes, scratch_fits, out_fits, outline_for, out_if, Outcome, keeping, kept_if, cutting, dashed_by, dashing}
 use Rattle.outline.specs.Runs.{CutIntoRuns}
 use Rattle.outline.proofs.Caps.{both, fits}
 use Rattle.vec2.proofs.Lists.{front}
@@ -99,17 +101,17 @@ module _ (path : List Segment) (intervals : List Float) (phase tolerance : Float
   kept true f h = out (out_fits ss vs fs) f refl h
   kept false f h = not_cut h
 
-  answers : (n : ℕ) (c : Bool) → Cuts (dashed_by n c (kept_if (scratch_fits ps es ms scratch ends marks) ps es ms ss held rule scratch ends marks vs fs) scratch ends marks vs fs)
-  answers (suc n) c h = not_cut h
-  answers zero false h = not_cut h
-  answers zero true h = kept (scratch_fits ps es ms scratch ends marks) refl h
+  answers : (n : Result Unit Refusal) (c : Bool) → Cuts (dashed_by n c (kept_if (scratch_fits ps es ms scratch ends marks) ps es ms ss held rule scratch ends marks vs fs) scratch ends marks vs fs)
+  answers (Err r) c h = not_cut h
+  answers (Ok u) false h = not_cut h
+  answers (Ok u) true h = kept (scratch_fits ps es ms scratch ends marks) refl h
 
 -- what `dash_path` ensures of its outcome b
 pub dash_runs : (verbs : List ℕ) (points : List Float) (rule : FillRule) (intervals : List Float) (phase tolerance : Float) (scratch : List Float) (ends marks vs : List ℕ) (fs : List Float) (b : Outcome) (o : Outline)
     → b ≡ dashing verbs points rule intervals phase tolerance scratch ends marks vs fs → b.reply.cut ≡ some o → CutIntoRuns (segments verbs points) intervals phase tolerance rule o b
 dash_runs verbs points rule intervals phase tolerance scratch ends marks vs fs b o e h =
     subst (λ (z : Outcome). CutIntoRuns (segments verbs points) intervals phase tolerance rule o z) (sym e)
-    (answers (segments verbs points) intervals phase tolerance rule scratch ends marks vs fs o (refusal verbs points intervals (length scratch) (length fs)) (cuts intervals phase tolerance) (sym (ap (λ (z : Outcome). z.reply.cut) e) ∙ h))
+    (answers (segments verbs points) intervals phase tolerance rule scratch ends marks vs fs o (check verbs points intervals (length scratch) (length fs)) (cuts intervals phase tolerance) (sym (ap (λ (z : Outcome). z.reply.cut) e) ∙ h))
 
 -- ---- W2: what is not cut says 0
 
@@ -125,14 +127,14 @@ kept_none : (b : Bool) (ps : List Vec2) (es ms : List ℕ) (ss : List Segment) (
 kept_none true ps es ms ss held rule scratch ends marks vs fs h = out_none (out_fits ss vs fs) ss (length ps) (length es) held rule vs fs (sets scratch 0 (flat ps)) (sets ends 0 es) (sets marks 0 ms) h
 kept_none false ps es ms ss held rule scratch ends marks vs fs h = refl
 
-answered_none : (n : ℕ) (c : Bool) (z : Outcome) (scratch : List Float) (ends marks vs : List ℕ) (fs : List Float) → SaysNone z → SaysNone (dashed_by n c z scratch ends marks vs fs)
-answered_none (suc n) c z scratch ends marks vs fs f h = refl
-answered_none zero false z scratch ends marks vs fs f h = refl
-answered_none zero true z scratch ends marks vs fs f h = f h
+answered_none : (n : Result Unit Refusal) (c : Bool) (z : Outcome) (scratch : List Float) (ends marks vs : List ℕ) (fs : List Float) → SaysNone z → SaysNone (dashed_by n c z scratch ends marks vs fs)
+answered_none (Err r) c z scratch ends marks vs fs f h = refl
+answered_none (Ok u) false z scratch ends marks vs fs f h = refl
+answered_none (Ok u) true z scratch ends marks vs fs f h = f h
 
 -- what `dash_path` answers where it doesn't cut
 pub dash_uncut : (verbs : List ℕ) (points : List Float) (rule : FillRule) (intervals : List Float) (phase tolerance : Float) (scratch : List Float) (ends marks vs : List ℕ) (fs : List Float)
     → SaysNone (dashing verbs points rule intervals phase tolerance scratch ends marks vs fs)
 dash_uncut verbs points rule intervals phase tolerance scratch ends marks vs fs =
-    answered_none (refusal verbs points intervals (length scratch) (length fs)) (cuts intervals phase tolerance) (cutting verbs points rule intervals phase tolerance scratch ends marks vs fs) scratch ends marks vs fs
+    answered_none (check verbs points intervals (length scratch) (length fs)) (cuts intervals phase tolerance) (cutting verbs points rule intervals phase tolerance scratch ends marks vs fs) scratch ends marks vs fs
     (kept_none (scratch_fits (points_out tolerance (segments verbs points)) (ends_out tolerance (segments verbs points)) (marks_out (segments verbs points)) scratch ends marks) _ _ _ _ _ rule scratch ends marks vs fs)

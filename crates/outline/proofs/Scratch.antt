@@ -1,5 +1,5 @@
 -- What flattening leaves in the scratch, and that its ends are in order. Assumes nothing.
-use mathlib.Core.Path.{◌≡◌, refl, sym, ◌∙◌, ap}
+use mathlib.Core.Path.{◌≡◌, refl, ◌∙◌, ap}
 use Prim.Native.Nat.{ℕ, ◌*◌, ◌/◌, ◌%◌, ◌≤◌}
 use native.Mathlib.Omega.{arith}
 use mathlib.Core.Bool.{Bool, true, false, cond, not, ◌&&◌, ◌||◌}
@@ -13,9 +13,12 @@ use Rattle.vec2.specs.declared.Vec2.{Vec2}
 use Rattle.vec2.specs.Points.{flat}
 use Rattle.path.specs.declared.Segment.{Segment}
 use Rattle.path.specs.Segment.{segments}
-use Rattle.path.specs.Check.{bad_path}
+use Rattle.std.specs.Prelude.{Result, Ok, Err}
+use Rattle.path.specs.declared.Refusal.{Refusal}
+use Rattle.path.specs.declared.Refusal.TheVariants.{OutputFull}
+use Rattle.path.specs.Check.{check}
 use Rattle.polyline.specs.declared.Flattened.{Flattened}
-use Rattle.polyline.specs.Flatten.{points_out, ends_out, held_curves, flat_refusal, replied, flatten, Outcome, outcome}
+use Rattle.polyline.specs.Flatten.{points_out, ends_out, held_curves, totals, check_outputs, replied, flatten, Outcome, outcome}
 use Rattle.polyline.specs.Polylines.{Rising}
 use Rattle.polyline.specs.Subpaths.{marks_out}
 use Rattle.polyline.proofs.Polylines.{ends_rise}
@@ -47,13 +50,13 @@ over_under a b = go (leb b a) refl
     go true e = le-ltb a b (leb-true b a e)
     go false e = lt-ltb a b (leb-false b a e)
 
-or_and : (a b d : Bool) (x y : ℕ) → cond (not a || (not b || not d)) x y ≡ cond (a && (b && d)) y x
+or_and : {A : Type 0} (a b d : Bool) (x y : A) → cond (not a || (not b || not d)) x y ≡ cond (a && (b && d)) y x
 or_and true true true x y = refl
 or_and true true false x y = refl
 or_and true false d x y = refl
 or_and false b d x y = refl
 
-module _ (vs : List ℕ) (fs : List Float) (tol : Float) (scratch : List Float) (ends marks : List ℕ) (even : length scratch % 2 ≡ 0) (good : bad_path vs fs ≡ 0) where
+module _ (vs : List ℕ) (fs : List Float) (tol : Float) (scratch : List Float) (ends marks : List ℕ) (even : length scratch % 2 ≡ 0) (good : check vs fs ≡ Ok tt) where
   abbrev path : List Segment
   path = segments vs fs
 
@@ -69,9 +72,9 @@ module _ (vs : List ℕ) (fs : List Float) (tol : Float) (scratch : List Float) 
   abbrev takes : Bool
   takes = scratch_fits ps es ms scratch ends marks
 
-  number : flat_refusal vs fs tol scratch ends marks ≡ cond takes 0 3
-  unfolding flat_refusal
-  number =
+  checked : check_outputs vs fs tol scratch ends marks ≡ cond takes (Ok tt) (Err OutputFull)
+  unfolding check_outputs
+  checked =
       rw (
         ne_eqb (length scratch % 2) 1 (λ e. omega (arith, e, even)),
         good,
@@ -79,14 +82,15 @@ module _ (vs : List ℕ) (fs : List Float) (tol : Float) (scratch : List Float) 
         over_under (length ends) (length es),
         over_under (length marks) (length ms),
       )
-      (or_and (leb (length ps) (length scratch / 2)) (leb (length es) (length ends)) (leb (length ms) (length marks)) 3 0)
+      (or_and (leb (length ps) (length scratch / 2)) (leb (length es) (length ends)) (leb (length ms) (length marks)) (Err OutputFull) (Ok tt))
 
-  reply : (o : Outcome) → o ≡ flatten vs fs tol scratch ends marks → o ≡ replied (cond takes 0 3) tol path scratch ends marks
+  reply : (o : Outcome) → o ≡ flatten vs fs tol scratch ends marks → o ≡ replied (cond takes (Ok tt) (Err OutputFull)) tol path scratch ends marks
   unfolding flatten
-  reply o e = e ∙ ap (λ (n : ℕ). replied n tol path scratch ends marks) number
+  reply o e = e ∙ ap (λ (r : Result Unit Refusal). replied r tol path scratch ends marks) checked
 
   -- the scratch is too small, and is as it was
-  pub record Full (s' : List Float) (e' m' : List ℕ) : Type 0 where
+  pub record Full (x : Refusal) (s' : List Float) (e' m' : List ℕ) : Type 0 where
+    pub refusal : x ≡ OutputFull
     pub misfit : takes ≡ false
     pub scratch_is : s' ≡ scratch
     pub ends_are : e' ≡ ends
@@ -104,31 +108,35 @@ module _ (vs : List ℕ) (fs : List Float) (tol : Float) (scratch : List Float) 
     pub polylines : take r.polylines e' ≡ es
     pub held : r.held ≡ held_curves tol path
 
-  module _ (r : Flattened) (s' : List Float) (e' m' : List ℕ) (e : outcome r s' e' m' ≡ flatten vs fs tol scratch ends marks) where
-    pub full : (r.refused ≡ 0 → ⊥) → Full s' e' m'
-    full h = go takes refl (reply _ e)
+  module _ (a : Result Flattened Refusal) (s' : List Float) (e' m' : List ℕ) (e : outcome a s' e' m' ≡ flatten vs fs tol scratch ends marks) where
+    pub full : (x : Refusal) → a ≡ Err x → Full x s' e' m'
+    full x h = go takes refl (reply _ e)
       where
-        go : (b : Bool) → takes ≡ b → outcome r s' e' m' ≡ replied (cond b 0 3) tol path scratch ends marks → Full s' e' m'
-        go true q z = absurd (h (ap (λ (o : Outcome). o.answer.refused) z))
+        go : (b : Bool) → takes ≡ b → outcome a s' e' m' ≡ replied (cond b (Ok tt) (Err OutputFull)) tol path scratch ends marks → Full x s' e' m'
+        go true q z = let d : a ≡ Ok (totals tol path) = ap (λ (o : Outcome). o.answer) z in absurd (cc)
         go false q z =
+            let d : a ≡ Err OutputFull = ap (λ (o : Outcome). o.answer) z in
             record {
+              refusal = cc;
               misfit = q;
               scratch_is = ap (λ (o : Outcome). o.floats) z;
               ends_are = ap (λ (o : Outcome). o.ends) z;
               marks_are = ap (λ (o : Outcome). o.marks) z;
             }
 
-    pub kept : r.refused ≡ 0 → KeptScratch r s' e' m'
-    kept h = go takes refl (reply _ e)
+    pub kept : (r : Flattened) → a ≡ Ok r → KeptScratch r s' e' m'
+    kept r h = go takes refl (reply _ e)
       where
-        go : (b : Bool) → takes ≡ b → outcome r s' e' m' ≡ replied (cond b 0 3) tol path scratch ends marks → KeptScratch r s' e' m'
+        go : (b : Bool) → takes ≡ b → outcome a s' e' m' ≡ replied (cond b (Ok tt) (Err OutputFull)) tol path scratch ends marks → KeptScratch r s' e' m'
         go true q z =
             let f = both (leb (length ps) (length scratch / 2)) (leb (length es) (length ends) && leb (length ms) (length marks)) q in
             let g = both (leb (length es) (length ends)) (leb (length ms) (length marks)) f.1 in
             let l : 2 * length ps ≤ length scratch = omega (arith, leb-true (length ps) (length scratch / 2) f.0) in
             let k : length es ≤ length ends = leb-true (length es) (length ends) g.0 in
-            let n : r.points ≡ length ps = ap (λ (o : Outcome). o.answer.points) z in
-            let m : r.polylines ≡ length es = ap (λ (o : Outcome). o.answer.polylines) z in
+            let d : a ≡ Ok (totals tol path) = ap (λ (o : Outcome). o.answer) z in
+            let c : r ≡ totals tol path = cc in
+            let n : r.points ≡ length ps = ap (λ (u : Flattened). u.points) c in
+            let m : r.polylines ≡ length es = ap (λ (u : Flattened). u.polylines) c in
             let s : s' ≡ sets scratch 0 (flat ps) = ap (λ (o : Outcome). o.floats) z in
             let t : e' ≡ sets ends 0 es = ap (λ (o : Outcome). o.ends) z in
             record {
@@ -140,6 +148,6 @@ module _ (vs : List ℕ) (fs : List Float) (tol : Float) (scratch : List Float) 
               rooms = omega (arith, k, m, ap length t, length-sets ends 0 es);
               points = ap (take (2 * r.points)) s ∙ front scratch (flat ps) (2 * r.points) (omega (arith, n, length-flat ps)) (omega (arith, l, length-flat ps));
               polylines = ap (take r.polylines) t ∙ front ends es r.polylines m k;
-              held = ap (λ (o : Outcome). o.answer.held) z;
+              held = ap (λ (u : Flattened). u.held) c;
             }
-        go false q z = absurd (omega (arith, h, ap (λ (o : Outcome). o.answer.refused) z))
+        go false q z = let d : a ≡ Err OutputFull = ap (λ (o : Outcome). o.answer) z in absurd (cc)

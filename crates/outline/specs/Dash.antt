@@ -1,12 +1,16 @@
 -- What `dash_path` answers, and what the five lent buffers then hold, as one outcome (`dash_path`, dash.rs; "Dash" and "Numbers" of the scope). Definitions only.
-use Rattle.std.specs.Prelude.{◌≡◌, ℕ, zero, suc, ◌/◌, ◌%◌, Bool, true, false, cond, ◌&&◌, List, length, leb, ltb, eqb, Float}
+use Rattle.std.specs.Prelude.{◌≡◌, ℕ, ◌/◌, ◌%◌, Bool, true, false, cond, ◌&&◌, List, length, leb, ltb, eqb, Float, Result, Ok, Err}
+use Rattle.std.specs.Result.{result_and}
 use Rattle.std.proofs.lemmas.List.Edits.{sets}
 use Rattle.vec2.specs.declared.Vec2.{Vec2}
 use Rattle.vec2.specs.Points.{flat, points_in}
 use Rattle.path.specs.declared.Segment.{Segment}
 use Rattle.path.specs.declared.FillRule.{FillRule}
 use Rattle.path.specs.Segment.{bytes_of, all_points, segments}
-use Rattle.path.specs.Check.{bad_path, max_verbs, max_points}
+use Rattle.path.specs.declared.Refusal.{Refusal}
+use Rattle.path.specs.declared.Refusal.TheVariants.{OddFloats, OutputFull, LongPattern}
+use Rattle.path.specs.Check as path
+use Rattle.path.specs.Check.{max_verbs, max_points}
 use Rattle.polyline.specs.Flatten.{points_out, ends_out, held_curves}
 use Rattle.polyline.specs.Subpaths.{marks_out}
 use Rattle.polyline.specs.Polylines.{polylines}
@@ -22,15 +26,12 @@ use Rattle.outline.specs.Answer.{Answer, refused_by, drawn_whole, cut_into}
 abbrev pub even : ℕ → Bool
 even n = eqb (n % 2) 0
 
--- the path's number, then 8
-abbrev pub then_eight : ℕ → ℕ → ℕ
-then_eight zero n = cond (ltb max_intervals n) 8 0
-then_eight (suc k) n = suc k
-
--- 1, then the path's 4, 5, 6, then 8; 0 for none. The last two are the lengths of the scratch and of the dash buffer of floats
-abbrev pub refusal : List ℕ → List Float → List Float → ℕ → ℕ → ℕ
-refusal vs fs intervals scratch floats =
-    cond (even (length fs) && (even scratch && even floats)) (then_eight (bad_path vs fs) (length intervals)) 1
+-- 1, then the path's 4, 5, 6, then 8. The last two are the lengths of the scratch and of the dash buffer of floats
+abbrev pub check : List ℕ → List Float → List Float → ℕ → ℕ → Result Unit Refusal
+check vs fs intervals scratch floats =
+    cond (even (length fs) && (even scratch && even floats))
+    (result_and (path.check vs fs) (cond (ltb max_intervals (length intervals)) (Err LongPattern) (Ok tt)))
+    (Err OddFloats)
 
 -- ---- what is drawn
 
@@ -73,7 +74,7 @@ outline_for ss n k held rule = record { verbs = length ss; points = length (all_
 -- laid where the dash buffers take them, else 3
 abbrev pub out_if : Bool → List Segment → ℕ → ℕ → ℕ → FillRule → List ℕ → List Float → CutOutcome
 out_if true ss n k held rule vs fs = cut_outcome (cut_into (outline_for ss n k held rule)) (sets vs 0 (bytes_of ss)) (sets fs 0 (flat (all_points ss)))
-out_if false ss n k held rule vs fs = cut_outcome (refused_by 3) vs fs
+out_if false ss n k held rule vs fs = cut_outcome (refused_by OutputFull) vs fs
 
 abbrev pub out_outcome : List Segment → ℕ → ℕ → ℕ → FillRule → List ℕ → List Float → CutOutcome
 out_outcome ss n k held rule vs fs = out_if (out_fits ss vs fs) ss n k held rule vs fs
@@ -103,7 +104,7 @@ keeping s e m o = outcome o.reply s e m o.verbs o.floats
 abbrev pub kept_if : Bool → List Vec2 → List ℕ → List ℕ → List Segment → ℕ → FillRule → List Float → List ℕ → List ℕ → List ℕ → List Float → Outcome
 kept_if true ps es ms ss held rule scratch ends marks vs fs =
     keeping (sets scratch 0 (flat ps)) (sets ends 0 es) (sets marks 0 ms) (out_outcome ss (length ps) (length es) held rule vs fs)
-kept_if false ps es ms ss held rule scratch ends marks vs fs = outcome (refused_by 3) scratch ends marks vs fs
+kept_if false ps es ms ss held rule scratch ends marks vs fs = outcome (refused_by OutputFull) scratch ends marks vs fs
 
 -- Cut: the path is flattened into the scratch, and each polyline walked; 3 for the scratch comes before 3 for the dash buffers
 abbrev pub cutting : List ℕ → List Float → FillRule → List Float → Float → Float → List Float → List ℕ → List ℕ → List ℕ → List Float → Outcome
@@ -114,13 +115,13 @@ cutting verbs points rule intervals phase tolerance scratch ends marks vs fs =
     let ms = marks_out path in
     kept_if (scratch_fits ps es ms scratch ends marks) ps es ms (dashes intervals phase ps es) (held_curves tolerance path) rule scratch ends marks vs fs
 
--- by the refusal's number; then Whole is decided, and touches no buffer
-abbrev pub dashed_by : ℕ → Bool → Outcome → List Float → List ℕ → List ℕ → List ℕ → List Float → Outcome
-dashed_by (suc n) cut o scratch ends marks vs fs = outcome (refused_by (suc n)) scratch ends marks vs fs
-dashed_by zero false o scratch ends marks vs fs = outcome drawn_whole scratch ends marks vs fs
-dashed_by zero true o scratch ends marks vs fs = o
+-- the refusals; then Whole is decided, and touches no buffer
+abbrev pub dashed_by : Result Unit Refusal → Bool → Outcome → List Float → List ℕ → List ℕ → List ℕ → List Float → Outcome
+dashed_by (Err r) cut o scratch ends marks vs fs = outcome (refused_by r) scratch ends marks vs fs
+dashed_by (Ok u) false o scratch ends marks vs fs = outcome drawn_whole scratch ends marks vs fs
+dashed_by (Ok u) true o scratch ends marks vs fs = o
 
 abbrev pub dashing : List ℕ → List Float → FillRule → List Float → Float → Float → List Float → List ℕ → List ℕ → List ℕ → List Float → Outcome
 dashing verbs points rule intervals phase tolerance scratch ends marks vs fs =
-    dashed_by (refusal verbs points intervals (length scratch) (length fs)) (cuts intervals phase tolerance)
+    dashed_by (check verbs points intervals (length scratch) (length fs)) (cuts intervals phase tolerance)
     (cutting verbs points rule intervals phase tolerance scratch ends marks vs fs) scratch ends marks vs fs

@@ -5,7 +5,7 @@ use path::FillRule;
 
 // What is cut: the verbs and points in the dash buffers, the points and polylines in the scratch, how many of the path's curves were held back, and the
 // path's fill rule.
-#[derive(Clone, Copy)]
+#[derive(Clone, Copy, PartialEq, Eq)]
 pub struct Outline {
     pub verbs: usize,
     pub points: usize,
@@ -15,9 +15,9 @@ pub struct Outline {
     pub rule: FillRule,
 }
 
-#[derive(Clone, Copy)]
+// The drawn outline is the path's own part, or what is cut.
+#[derive(Clone, Copy, PartialEq, Eq)]
 pub enum Dashed {
     Whole,
     Cut(Outline),
-    Refused(u8),
 }
