@@ -1,7 +1,8 @@
 -- Sizes as digits and zeros: those of a pattern, what is left of one that is divided by another, and the pattern of one. Assumes nothing.
 use mathlib.Core.Path.{◌≡◌, sym, ap, ◌∙◌, subst}
 use Prim.Native.Nat.{ℕ, zero, suc, ◌+◌, ◌-◌, ◌*◌, ◌/◌, ◌%◌, ◌^◌, ◌≤◌, ◌<◌}
-use native.Mathlib.Nat.{le_trans, le_of_eq, lt_of_lt_of_le, lt_irrefl, mul_assoc, mul-one, add-mul, mul-pos, mul-le-mul_right, mul-lt-mul_of_pos_right, mod-lt, div-add-mod', pow-succ'}
+use native.Mathlib.Nat.{le_trans, le_of_eq, lt_of_lt_of_le, lt_irrefl, mul_assoc, mul-one, add-mul, mul-pos, mul-le-mul_right, mul-lt-mul_of_pos_right, mod-lt, div-add-mod', pow-succ', mul_comm}
+use native.Mathlib.Numerals.{add-one}
 use native.Mathlib.Omega.{arith}
 use mathlib.Core.Bool.{Bool, true, false, not}
 use lib.Dec.{T, ltb, ltb→lt, nltb→le}
@@ -43,6 +44,9 @@ pub above_zero : (b q j : ℕ) → 0 < b → Parts b q j → 0 < magnitude b
 above_zero b q j h p = subst (λ (x : ℕ). 0 < x) p.value (mul-pos (p.some h) (pow_pos j))
 
 -- ---- more zeros, and fewer
+
+pub one_zero_more : (n k : ℕ) → n * 2 ^ k * 2 ≡ n * 2 ^ (k + 1)
+one_zero_more n k = rw (add-one k) (mul_assoc n (2 ^ k) 2 ∙ ap (λ (x : ℕ). n * x) (mul_comm (2 ^ k) 2 ∙ sym (pow-succ' 2 k)))
 
 pub double : (r k : ℕ) → 0 < k → r * 2 * 2 ^ (k - 1) ≡ r * 2 ^ k
 double r zero h = absurd (lt_irrefl 0 h)

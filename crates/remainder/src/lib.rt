@@ -38,10 +38,8 @@ fn rest_of(n: u32, k: u32, m: u32) -> u32
     ensures { (result ≡ n * 2 ^ k % m) × (result < m) }
 {
     let mut r = n % m;
-    let mut left = k;
-    while 0 < left {
+    for _zero in 0..k {
         r = r * 2 % m;
-        left -= 1;
     }
     r
 }
@@ -53,11 +51,8 @@ fn pattern_of(digits: u32, zeros: u32) -> u32
 {
     let mut r = digits;
     let mut k = zeros;
-    while 0 < k {
-        if 0x80_0000 <= r {
-            break;
-        }
-        r = r * 2;
+    while 0 < k && r < 0x80_0000 {
+        r *= 2;
         k -= 1;
     }
     k * 0x80_0000 + r

@@ -1,18 +1,16 @@
 -- Dividing earlier leaves the same. Assumes nothing.
-use mathlib.Core.Path.{ap, ◌∙◌}
-use Prim.Native.Nat.{ℕ, ◌-◌, ◌*◌, ◌%◌, ◌^◌}
+use Rattle.std.proofs.Common.{ℕ, ◌*◌, ◌%◌, ◌^◌, ap, ◌∙◌}
 use native.Mathlib.Nat.{mod-lt}
 use Rattle.std.proofs.lemmas.Nat.{mul-mod_first}
-use Rattle.remainder.proofs.Sizes.{double}
+use Rattle.remainder.proofs.Sizes.{one_zero_more}
 use Rattle.remainder.proofs.rest_of.Goals as goal
 
-pub loop-left-init : goal.loop-left-init
-loop-left-init c = (mul-mod_first c.args.n (2 ^ c.args.k) c.args.m, mod-lt c.args.n c.requires.0)
-
-pub loop-left-preserved : goal.loop-left-preserved
-loop-left-preserved c =
-    let l = c.loop-left in
+pub loop-zero-preserved : goal.loop-zero-preserved
+loop-zero-preserved c =
+    let l = c.loop-zero in
     let m = c.args.m in (
-      mul-mod_first (l.r * 2) (2 ^ (l.left - 1)) m ∙ ap (λ (n : ℕ). n % m) (double l.r l.left c.loop-left-test.true) ∙ l.invariant.0,
+      ap (λ (r : ℕ). r * 2 % m) l.invariant.0
+          ∙ mul-mod_first (c.args.n * 2 ^ l._zero) 2 m
+          ∙ ap (λ (r : ℕ). r % m) (one_zero_more c.args.n l._zero),
       mod-lt (l.r * 2) c.requires.0,
     )
