@@ -1,2 +1,1 @@
-pub mod Bends
 pub mod Numbers

@@ -13,16 +13,14 @@ pub const DEFAULT_TOLERANCE: f32 = 0.25;
 pub const MAX_SEGMENTS: u32 = 1000;
 
 // The tolerance in curve space, from the transform's largest scale factor.
+#[tactic(auto, unfolding(crate::specs::Count::scaled_tolerance))]
 pub fn tolerance_for_scale(tolerance: f32, max_scale: f32) -> f32
     ensures { result ≡ scaled_tolerance tolerance max_scale }
 {
-    if max_scale <= 0.0 {
+    if max_scale <= 0.0 || !float::is_finite(max_scale) {
         return tolerance;
     }
-    if float::is_finite(max_scale) {
-        return tolerance / max_scale;
-    }
-    tolerance
+    tolerance / max_scale
 }
 
 // Where the curve is at t.

@@ -3,7 +3,8 @@
 
 use builder::PathBuilder;
 use outline::Dashed;
-use path::{Cursor, FillRule, Segment, Step};
+use path::{FillRule, Segment};
+use segments::Segments;
 use std::io;
 use vec2::Vec2;
 
@@ -56,15 +57,10 @@ fn print_segment(rt: &impl Print, s: Segment) -> io::Result<()> {
 }
 
 fn print_path(rt: &impl Print, verbs: &[u8], points: &[f32]) -> io::Result<()> {
-    let mut c = Cursor { verb: 0, point: 0 };
-    loop {
-        let step = cursor::next(verbs, points, c);
-        let Step::Next(s, d) = step else {
-            return say(rt, b"\n");
-        };
+    for s in Segments::new(verbs, points) {
         print_segment(rt, s)?;
-        c = d;
     }
+    say(rt, b"\n")
 }
 
 // The filled part of the dash buffers.

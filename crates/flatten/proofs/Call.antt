@@ -1,7 +1,7 @@
 -- The call: each way out gives what the definition gives. Assumes nothing.
-use mathlib.Core.Path.{◌≡◌, refl, sym, ◌∙◌}
+use mathlib.Core.Path.{◌≡◌, sym, ◌∙◌}
 use mathlib.Core.List.{List}
-use Prim.Native.Nat.{ℕ, zero, suc, ◌+◌, ◌*◌, ◌/◌, ◌%◌, ◌≤◌, ◌<◌}
+use Prim.Native.Nat.{ℕ, ◌+◌, ◌*◌, ◌/◌, ◌%◌, ◌≤◌, ◌<◌}
 use native.Mathlib.Omega.{arith}
 use borrow.Author.Tests.{lt-ltb, le-ltb, eq-eqb, ne_eqb}
 use lib.ListN.{length}
@@ -9,59 +9,56 @@ use lib.Seq.{sets}
 use lib.Ieee.{Float}
 use Rattle.vec2.specs.Points.{flat}
 use Rattle.path.specs.Segment.{segments}
-use Rattle.path.specs.Check.{used_by, bad_path}
-use Rattle.polyline.specs.declared.Flattened.{Flattened}
+use Rattle.std.specs.Prelude.{Ok, Err}
+use Rattle.path.specs.declared.Refusal.{Refusal}
+use Rattle.path.specs.declared.Refusal.TheVariants.{OddFloats, OutputFull}
+use Rattle.path.specs.Check.{check}
+use Rattle.segments.specs.Path.{Checked}
 use Rattle.polyline.specs.declared.Tally.{Tally}
-use Rattle.polyline.specs.Flatten.{nowhere, points_out, ends_out, flat_refusal, outcome, refused_by, flatten}
+use Rattle.polyline.specs.Flatten.{nowhere, points_out, ends_out, check_outputs, outcome, flatten}
 use Rattle.measure.specs.Measure.{none, measured}
 use Rattle.polyline.specs.Subpaths.{marks_out}
 use Rattle.measure.proofs.Measures.{Meant, meant}
 use Rattle.polyline.proofs.Polylines.{marks_ends}
-use Rattle.polyline.proofs.Good.{sound}
 
 module _ (vs : List ℕ) (fs : List Float) (tol : Float) (out : List Float) (es ms : List ℕ) where
-  -- the answer, with the outputs as they were
-  abbrev pub Refuses : Flattened → Type 0
-  Refuses r = outcome r out es ms ≡ flatten vs fs tol out es ms
-
-  refuses : (r : Flattened) (n : ℕ) → r ≡ refused_by n → flat_refusal vs fs tol out es ms ≡ n → (n ≡ 0 → ⊥) → Refuses r
+  refuses : (x : Refusal) → check_outputs vs fs tol out es ms ≡ Err x → outcome (Err x) out es ms ≡ flatten vs fs tol out es ms
   unfolding flatten
-  refuses r zero q e h = absurd (h refl)
-  refuses r (suc n) q e h = rw (q, e)
+  refuses x e = rw e
 
-  odd_number : length out % 2 ≡ 1 → flat_refusal vs fs tol out es ms ≡ 1
-  unfolding flat_refusal
-  odd_number h = rw (eq-eqb (length out % 2) 1 h)
+  odd : length out % 2 ≡ 1 → check_outputs vs fs tol out es ms ≡ Err OddFloats
+  unfolding check_outputs
+  odd h = rw (eq-eqb (length out % 2) 1 h)
 
-  pub odd_out : length out % 2 ≡ 1 → (r : Flattened) → r ≡ refused_by 1 → Refuses r
-  odd_out h r q = refuses r 1 q (odd_number h) (λ e. omega (arith, e))
+  pub odd_out : length out % 2 ≡ 1 → outcome (Err OddFloats) out es ms ≡ flatten vs fs tol out es ms
+  odd_out h = refuses OddFloats (odd h)
 
-  module _ (h1 : length out % 2 ≡ 1 → ⊥) (n : ℕ) (e : n ≡ bad_path vs fs) where
-    path_number : (n ≡ 0 → ⊥) → flat_refusal vs fs tol out es ms ≡ n
-    unfolding flat_refusal
-    path_number h = rw (ne_eqb (length out % 2) 1 h1, ← e, ne_eqb n 0 h)
+  module _ (h1 : length out % 2 ≡ 1 → ⊥) where
+    path_refused : (x : Refusal) → check vs fs ≡ Err x → check_outputs vs fs tol out es ms ≡ Err x
+    unfolding check_outputs
+    path_refused x h = rw (ne_eqb (length out % 2) 1 h1, h)
 
-    pub bad_path_lem : (n ≡ 0 → ⊥) → (r : Flattened) → r ≡ refused_by n → Refuses r
-    bad_path_lem h r q = refuses r n q (path_number h) h
+    pub bad_path : (x : Refusal) → check vs fs ≡ Err x → outcome (Err x) out es ms ≡ flatten vs fs tol out es ms
+    bad_path x h = refuses x (path_refused x h)
 
-    module _ (z : n ≡ 0) (t : Tally) (m : t ≡ measured tol none nowhere (segments vs fs)) where
-      good : bad_path vs fs ≡ 0
-      good = sym e ∙ z
+    module _ (path : Checked) (h : (check vs fs ≡ Ok tt) × (path ≡ record { verbs = vs; points = fs })) (t : Tally) (m : t ≡ measured tol none nowhere (segments path.verbs path.points)) where
+      good : check vs fs ≡ Ok tt
+      good = h.0
 
       means : Meant tol (segments vs fs) t
-      means = meant tol (segments vs fs) t m
+      means = rw h.1 at (meant tol (segments path.verbs path.points) t m)
 
-      points_number : length out / 2 < t.starts + t.lines + t.counts + t.closings → flat_refusal vs fs tol out es ms ≡ 3
-      unfolding flat_refusal
-      points_number h = rw (ne_eqb (length out % 2) 1 h1, good, lt-ltb (length out / 2) (length (points_out tol (segments vs fs))) (rw (← means.points) h))
+      points_over : length out / 2 < t.starts + t.lines + t.counts + t.closings → check_outputs vs fs tol out es ms ≡ Err OutputFull
+      unfolding check_outputs
+      points_over h = rw (ne_eqb (length out % 2) 1 h1, good, lt-ltb (length out / 2) (length (points_out tol (segments vs fs))) (rw (← means.points) h))
 
-      pub few_points : length out / 2 < t.starts + t.lines + t.counts + t.closings → (r : Flattened) → r ≡ refused_by 3 → Refuses r
-      few_points h r q = refuses r 3 q (points_number h) (λ e. omega (arith, e))
+      pub few_points : length out / 2 < t.starts + t.lines + t.counts + t.closings → outcome (Err OutputFull) out es ms ≡ flatten vs fs tol out es ms
+      few_points h = refuses OutputFull (points_over h)
 
       module _ (h2 : t.starts + t.lines + t.counts + t.closings ≤ length out / 2) where
-        ends_number : length es < t.starts → flat_refusal vs fs tol out es ms ≡ 3
-        unfolding flat_refusal
-        ends_number h =
+        ends_over : length es < t.starts → check_outputs vs fs tol out es ms ≡ Err OutputFull
+        unfolding check_outputs
+        ends_over h =
             rw (
               ne_eqb (length out % 2) 1 h1,
               good,
@@ -69,16 +66,16 @@ module _ (vs : List ℕ) (fs : List Float) (tol : Float) (out : List Float) (es 
               lt-ltb (length es) (length (ends_out tol (segments vs fs))) (rw (← means.polylines) h),
             )
 
-        pub few_ends : length es < t.starts → (r : Flattened) → r ≡ refused_by 3 → Refuses r
-        few_ends h r q = refuses r 3 q (ends_number h) (λ e. omega (arith, e))
+        pub few_ends : length es < t.starts → outcome (Err OutputFull) out es ms ≡ flatten vs fs tol out es ms
+        few_ends h = refuses OutputFull (ends_over h)
 
         module _ (h3 : t.starts ≤ length es) where
           long_marks : length (marks_out (segments vs fs)) ≡ t.starts
           long_marks = marks_ends tol (segments vs fs) ∙ sym means.polylines
 
-          marks_number : length ms < t.starts → flat_refusal vs fs tol out es ms ≡ 3
-          unfolding flat_refusal
-          marks_number h =
+          marks_over : length ms < t.starts → check_outputs vs fs tol out es ms ≡ Err OutputFull
+          unfolding check_outputs
+          marks_over h =
               rw (
                 ne_eqb (length out % 2) 1 h1,
                 good,
@@ -87,13 +84,13 @@ module _ (vs : List ℕ) (fs : List Float) (tol : Float) (out : List Float) (es 
                 lt-ltb (length ms) (length (marks_out (segments vs fs))) (rw long_marks h),
               )
 
-          pub few_marks : length ms < t.starts → (r : Flattened) → r ≡ refused_by 3 → Refuses r
-          few_marks h r q = refuses r 3 q (marks_number h) (λ e. omega (arith, e))
+          pub few_marks : length ms < t.starts → outcome (Err OutputFull) out es ms ≡ flatten vs fs tol out es ms
+          few_marks h = refuses OutputFull (marks_over h)
 
           module _ (h4 : t.starts ≤ length ms) where
-            no_number : flat_refusal vs fs tol out es ms ≡ 0
-            unfolding flat_refusal
-            no_number =
+            none_over : check_outputs vs fs tol out es ms ≡ Ok tt
+            unfolding check_outputs
+            none_over =
                 rw (
                   ne_eqb (length out % 2) 1 h1,
                   good,
@@ -102,14 +99,14 @@ module _ (vs : List ℕ) (fs : List Float) (tol : Float) (out : List Float) (es 
                   le-ltb (length ms) (length (marks_out (segments vs fs))) (rw long_marks h4),
                 )
 
-            pub has_room : (2 * used_by vs ≤ length fs) × (2 * length (points_out tol (segments vs fs)) ≤ length out)
-                × (length (ends_out tol (segments vs fs)) ≤ length es) × (length (marks_out (segments vs fs)) ≤ length ms)
-            has_room = (omega (arith, (sound vs fs good).used), omega (arith, means.points), omega (arith, means.polylines), omega (arith, long_marks))
+            pub has_room : (2 * length (points_out tol (segments path.verbs path.points)) ≤ length out)
+                × (length (ends_out tol (segments path.verbs path.points)) ≤ length es) × (length (marks_out (segments path.verbs path.points)) ≤ length ms)
+            has_room = rw h.1 (omega (arith, h2, means.points), omega (arith, h3, means.polylines), omega (arith, h4, long_marks))
 
             pub done : (o : List Float) (p q : List ℕ) →
-                (o ≡ sets out 0 (flat (points_out tol (segments vs fs)))) × (p ≡ sets es 0 (ends_out tol (segments vs fs))) × (q ≡ sets ms 0 (marks_out (segments vs fs))) →
+                o ≡ sets out 0 (flat (points_out tol (segments path.verbs path.points))) → p ≡ sets es 0 (ends_out tol (segments path.verbs path.points)) → q ≡ sets ms 0 (marks_out (segments path.verbs path.points)) →
                 outcome
-                (record {
+                (Ok (record {
                   points = t.starts + t.lines + t.counts + t.closings;
                   polylines = t.starts;
                   starts = t.starts;
@@ -117,10 +114,9 @@ module _ (vs : List ℕ) (fs : List Float) (tol : Float) (out : List Float) (es 
                   counts = t.counts;
                   closings = t.closings;
                   held = t.held;
-                  refused = 0;
-                }) o p q
+                })) o p q
                 ≡ flatten vs fs tol out es ms
             unfolding flatten
-            done o p q w =
+            done o p q eo ep eq =
                 let k = means in
-                rw (no_number, w.0, w.1, w.2) (cc)
+                rw (none_over, eo, ep, eq, h.1) (cc)

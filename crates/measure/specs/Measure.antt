@@ -1,8 +1,9 @@
 -- What the measuring promises: the totals so far, segment by segment, and their range. Definitions only.
-use Rattle.std.specs.Prelude.{ℕ, ◌+◌, ◌*◌, ◌≤◌, Bool, not, List, [], ◌∷◌, Float}
+use Rattle.std.specs.Prelude.{ℕ, ◌+◌, ◌*◌, ◌≤◌, not, List, [], ◌∷◌, Float}
 use Rattle.vec2.specs.declared.Vec2.{Vec2}
 use Rattle.path.specs.declared.Segment.{Segment}
 use Rattle.path.specs.Segment.{is_line}
+use Rattle.float.specs.declared.SegmentCount.{SegmentCount}
 use Rattle.polyline.specs.declared.Spot.{Spot}
 use Rattle.polyline.specs.declared.Tally.{Tally}
 use Rattle.polyline.specs.declared.Gauge.{Gauge}
@@ -21,18 +22,17 @@ tally tol w s t =
       held = t.held + one (is_held tol w s);
     }
 
--- the totals so far, and where the flattening stands: with a drawn segment to p more, `line` of a line, n of a curve and whether that was held back;
--- with a close; with any segment
-abbrev pub drawn_more : Gauge → Vec2 → ℕ → ℕ → Bool → Gauge
-drawn_more g p line n wasHeld =
+-- the totals so far, and where the flattening stands: with a drawn segment to p more, `line` of a line and a curve's count; with a close; with any segment
+abbrev pub drawn_more : Gauge → Vec2 → ℕ → SegmentCount → Gauge
+drawn_more g p line n =
     record {
       sum =
           record {
             starts = g.sum.starts + one (not g.spot.drawn);
             lines = g.sum.lines + line;
-            counts = g.sum.counts + n;
+            counts = g.sum.counts + n.count;
             closings = g.sum.closings;
-            held = g.sum.held + one wasHeld;
+            held = g.sum.held + one n.held;
           };
       spot = drawn_to g.spot p;
     }

@@ -25,7 +25,7 @@ pub length-bytes : (ss : List Segment) → length (bytes_of ss) ≡ length ss
 length-bytes [] = refl
 length-bytes (s ∷ ss) = ap suc (length-bytes ss)
 
--- ---- the cursor
+-- ---- read again
 
 module _ (ps rest : List Vec2) where
   at_0 : (p : Vec2) → point_at (flat (ps ++ p ∷ rest)) (length ps) ≡ p

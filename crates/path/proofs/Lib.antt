@@ -1,5 +1,4 @@
 pub mod Checks
-pub mod Segments
 pub mod Encoded
 pub mod Steps
 pub mod Refusals

@@ -2,5 +2,4 @@ pub mod Segment
 pub mod Rule
 pub mod Refusal
 pub mod Check
-pub mod Cursor
 pub mod Style

@@ -204,7 +204,7 @@ pub fn check(verbs: &[u8], points: &[f32]) -> Result<(), Refusal>
     Ok(())
 }
 
-// ---- points and the cursor
+// ---- points
 
 // Point k of a float buffer.
 pub fn point_at(points: &[f32], k: usize) -> Vec2
@@ -214,17 +214,4 @@ pub fn point_at(points: &[f32], k: usize) -> Vec2
     let x = points[2 * k];
     let y = points[2 * k + 1];
     Vec2 { x, y }
-}
-
-// The verbs and points that stand before the next segment.
-#[derive(Clone, Copy)]
-pub struct Cursor {
-    pub verb: usize,
-    pub point: usize,
-}
-
-#[derive(Clone, Copy)]
-pub enum Step {
-    Next(Segment, Cursor),
-    End,
 }

@@ -3,7 +3,7 @@ use mathlib.Core.Path.{◌≡◌, refl, sym, ap, ◌∙◌}
 use mathlib.Core.List.{List, [], ◌∷◌, ◌++◌}
 use Prim.Native.Nat.{ℕ, zero, suc, pred, ◌+◌, ◌-◌, ◌*◌}
 use native.Mathlib.Nat.{add-zero, add-suc, suc-add}
-use native.Mathlib.Numerals.{add-one, sub-one}
+use native.Mathlib.Numerals.{sub-one}
 use native.Mathlib.Omega.{arith}
 use lib.ListN.{length}
 use lib.Seq.{sets}
@@ -33,18 +33,21 @@ module _ (l out next : List Float) (at k : ℕ) (eval : Float → Vec2) (n : ℕ
       let f : 2 * at + length (flat (inner eval n k)) ≡ 2 * (at + k) = omega (arith, length-flat (inner eval n k), length-steps (λ i. eval (param i n)) 1 k) in
       h ∙ rw (e, flat_append, sets-append, f)
 
-  -- the loop's turn: the inner point k + 1
-  pub one_more : (q : Vec2) → q ≡ eval (param (k + 1) n) → next ≡ sets out (2 * (at + k)) (flat (q ∷ [])) →
-      next ≡ sets l (2 * at) (flat (inner eval n (k + 1)))
-  one_more q h s =
-      let f : ℕ → Vec2 = λ i. eval (param i n) in
-      let one : k + 1 ≡ 1 + k = omega arith in
-      behind q s
+  -- the loop's turn: the inner point i, behind k others
+  pub one_more : (i : ℕ) → i ≡ k + 1 → (q : Vec2) → q ≡ eval (param i n) → next ≡ sets out (2 * (at + i - 1)) (flat (q ∷ [])) →
+      next ≡ sets l (2 * at) (flat (inner eval n (i + 1 - 1)))
+  one_more i ei q h s =
+      let f : ℕ → Vec2 = λ j. eval (param j n) in
+      let one : i ≡ 1 + k = omega (arith, ei) in
+      let place : at + i - 1 ≡ at + k = omega (arith, ei) in
+      let more : i + 1 - 1 ≡ suc k = omega (arith, ei) in
+      behind q (s ∙ ap (λ (j : ℕ). sets out (2 * j) (flat (q ∷ []))) place)
       ∙ ap (λ (ps : List Vec2). sets l (2 * at) (flat ps))
-      (ap (λ (x : Vec2). steps f 1 k ++ x ∷ []) (h ∙ ap f one) ∙ sym (steps_snoc f 1 k) ∙ ap (λ (j : ℕ). steps f 1 j) (sym (add-one k)))
+      (ap (λ (x : Vec2). steps f 1 k ++ x ∷ []) (h ∙ ap f one) ∙ sym (steps_snoc f 1 k) ∙ ap (λ (j : ℕ). steps f 1 j) (sym more))
 
   -- after it: the end
-  pub the_end : (p : Vec2) → k ≡ n - 1 → next ≡ sets out (2 * (at + (n - 1))) (flat (p ∷ [])) → next ≡ sets l (2 * at) (flat (curved eval n p))
+  pub the_end : (p : Vec2) → n ≡ k + 1 → next ≡ sets out (2 * (at + n - 1)) (flat (p ∷ [])) → next ≡ sets l (2 * at) (flat (curved eval n p))
   the_end p h s =
-      let g : pred n ≡ k = sym (sub-one n) ∙ sym h in
-      rw g (behind p (rw h s))
+      let g : pred n ≡ k = omega (arith, h, sub-one n) in
+      let place : at + n - 1 ≡ at + k = omega (arith, h) in
+      rw g (behind p (s ∙ ap (λ (j : ℕ). sets out (2 * j) (flat (p ∷ []))) place))

@@ -11,28 +11,16 @@ use vec2::Vec2;
 pub fn start_of_path() -> Spot
     ensures { result ≡ nowhere }
 {
-    let o = Vec2::zero();
-    Spot {
-        start: o,
-        pen: o,
-        last: o,
-        drawn: false,
-    }
+    move_to(Vec2::zero())
 }
 
 // Whether a close writes the move's point. A start that is a NaN equals nothing, itself included.
+#[tactic(auto, unfolding(polyline::specs::Flatten::close_adds))]
 pub fn close_adds(w: Spot) -> bool
     ensures { result ≡ close_adds w }
 {
     let start = w.start;
-    let last = w.last;
-    if !w.drawn {
-        return false;
-    }
-    if start.same(start) {
-        return !last.same(start);
-    }
-    false
+    w.drawn && start.same(start) && !w.last.same(start)
 }
 
 pub fn move_to(p: Vec2) -> Spot
@@ -49,12 +37,11 @@ pub fn move_to(p: Vec2) -> Spot
 pub fn drawn_to(w: Spot, p: Vec2) -> Spot
     ensures { result ≡ drawn_to w p }
 {
-    let start = w.start;
     Spot {
-        start,
         pen: p,
         last: p,
         drawn: true,
+        ..w
     }
 }
 
@@ -62,27 +49,22 @@ pub fn close(w: Spot) -> Spot
     ensures { result ≡ after_close w }
 {
     let start = w.start;
-    let mut last = w.last;
-    if close_adds(w) {
-        last = start;
-    }
+    let last = if close_adds(w) { start } else { w.last };
     Spot {
-        start,
         pen: start,
         last,
-        drawn: w.drawn,
+        ..w
     }
 }
 
 // Where a flattening stands after a segment.
+#[tactic(auto, unfolding(polyline::specs::Flatten::after))]
 pub fn advance(w: Spot, s: Segment) -> Spot
     ensures { result ≡ after w s }
 {
     match s {
         Segment::Move(p) => move_to(p),
-        Segment::Line(p) => drawn_to(w, p),
-        Segment::Quad(_, p) => drawn_to(w, p),
-        Segment::Cubic(_, _, p) => drawn_to(w, p),
+        Segment::Line(p) | Segment::Quad(_, p) | Segment::Cubic(_, _, p) => drawn_to(w, p),
         Segment::Close => close(w),
     }
 }
@@ -91,11 +73,5 @@ pub fn advance(w: Spot, s: Segment) -> Spot
 pub fn ends_polyline(w: Spot, s: Segment) -> bool
     ensures { result ≡ stops w s }
 {
-    match s {
-        Segment::Move(_) => w.drawn,
-        Segment::Line(_) => false,
-        Segment::Quad(_, _) => false,
-        Segment::Cubic(_, _, _) => false,
-        Segment::Close => false,
-    }
+    w.drawn && matches!(s, Segment::Move(_))
 }

@@ -11,10 +11,11 @@ use vec2::Vec2;
 fn second_difference(a: Vec2, b: Vec2, c: Vec2) -> Vec2
     ensures { result ≡ second a b c }
 {
-    a.sub(b.mul(2.0)).add(c)
+    a - b * 2.0 + c
 }
 
 // The larger component times √2: a square would overflow earlier. A NaN stays a NaN.
+#[tactic(auto, unfolding(curve::specs::Count::bend))]
 fn second_difference_magnitude(v: Vec2) -> f32
     ensures { result ≡ bend v }
 {

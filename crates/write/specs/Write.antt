@@ -3,19 +3,18 @@ use Rattle.std.specs.Prelude.{◌≡◌, ℕ, ◌+◌, ◌*◌, Bool, not, List,
 use Rattle.std.proofs.lemmas.List.Edits.{sets}
 use Rattle.vec2.specs.declared.Vec2.{Vec2}
 use Rattle.vec2.specs.Points.{flat}
-use Rattle.curve.specs.Count.{quad_count, cubic_count, eval_quad, eval_cubic}
 use Rattle.polyline.specs.declared.Spot.{Spot}
-use Rattle.polyline.specs.Flatten.{only_if, curved}
+use Rattle.polyline.specs.Flatten.{only_if}
+use Rattle.polyline.specs.Pass.{close_before}
+use Rattle.polyline.specs.Subpaths.{mark}
 
 -- a drawn segment's points, behind the polyline's start where that is not written yet
 abbrev pub begun : Spot → List Vec2 → List Vec2
 begun w ps = only_if (not w.drawn) w.start ++ ps
 
-abbrev pub quad_points : Float → Spot → Vec2 → Vec2 → List Vec2
-quad_points tol w c p = curved (eval_quad w.pen c p) (quad_count tol w.pen c p) p
-
-abbrev pub cubic_points : Float → Spot → Vec2 → Vec2 → Vec2 → List Vec2
-cubic_points tol w c d p = curved (eval_cubic w.pen c d p) (cubic_count tol w.pen c d p) p
+-- what a curve's calls return is what eval gives
+abbrev pub Evaluates : (Float → Vec2 → Type 0) → (Float → Vec2) → Type 0
+Evaluates returns eval = (t : Float) (q : Vec2) → returns t q → q ≡ eval t
 
 -- points stored from point `at` on, and the place behind them
 pub record Wrote (before left : List Float) (at next : ℕ) (ps : List Vec2) : Type 0 where
@@ -27,3 +26,11 @@ pub record Ended (ends ends' marks marks' : List ℕ) (at next : ℕ) (wanted : 
   pub ended : ends' ≡ sets ends at (only_if wanted n)
   pub marked : marks' ≡ sets marks at (only_if wanted m)
   pub moved : next ≡ at + length (only_if wanted n)
+
+-- whether the last of the verbs is a close
+abbrev pub last_closes : List ℕ → Bool
+last_closes vs = close_before vs (length vs)
+
+-- the mark of a subpath whose last verb that is
+abbrev pub last_mark : List ℕ → ℕ
+last_mark vs = mark (last_closes vs)

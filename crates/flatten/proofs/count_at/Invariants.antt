@@ -1,14 +1,13 @@
 use mathlib.Core.Path.{◌≡◌}
-use Prim.Native.Nat.{◌+◌, ◌-◌, ◌*◌, ◌≤◌}
-use lib.ListN.{length, drop}
+use Prim.Native.Nat.{◌-◌, ◌≤◌}
+use Rattle.std.specs.Iterator.Adapters.{enumerate_source, enumerate_count}
 use Rattle.path.specs.Segment.{segments}
-use Rattle.path.specs.Check.{used_by}
+use Rattle.segments.specs.Read.{left}
 use Rattle.polyline.specs.Flatten.{nowhere, count_at}
-use Rattle.path.proofs.Steps.{segments_left}
 use Rattle.flatten.proofs.count_at.Given as goal
 
-abbrev pub invariant-loop-s : goal.invariant-loop-s
-invariant-loop-s l = (l.c.verb ≤ l.fn.index) × (2 * (l.c.point + used_by (drop l.c.verb l.fn.verbs)) ≤ length l.fn.points) × (count_at l.fn.tolerance l.w (segments_left l.fn.verbs l.fn.points l.c.verb l.c.point) (l.fn.index - l.c.verb) ≡ count_at l.fn.tolerance nowhere (segments l.fn.verbs l.fn.points) l.fn.index)
-
-abbrev pub decreases-loop-s : goal.decreases-loop-s
-decreases-loop-s l = length l.fn.verbs - l.c.verb
+abbrev pub invariant-loop-i : goal.invariant-loop-i
+invariant-loop-i l = record {
+  before : enumerate_count l.i-iterator ≤ l.fn.index;
+  same : count_at l.fn.tolerance l.w (left (enumerate_source l.i-iterator)) (l.fn.index - enumerate_count l.i-iterator) ≡ count_at l.fn.tolerance nowhere (segments l.fn.path.verbs l.fn.path.points) l.fn.index;
+}

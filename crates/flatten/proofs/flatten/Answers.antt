@@ -1,46 +1,41 @@
-use mathlib.Core.Path.{sym, ◌∙◌}
-use native.Mathlib.Omega.{arith}
-use Rattle.polyline.proofs.Good.{sound}
-use Rattle.flatten.proofs.Call.{odd_out, bad_path_lem, few_points, few_ends, few_marks, has_room, done}
+use Rattle.std.proofs.Common.{sym, ◌∙◌}
+use Rattle.std.proofs.lemmas.Result.{err_from_is_err_and}
+use Rattle.segments.proofs.Answer.{passed, refused}
+use Rattle.flatten.proofs.Call.{odd_out, bad_path, few_points, few_ends, few_marks, has_room, done}
 use Rattle.flatten.proofs.flatten.Goals as goal
 
 pub returns-then-out-eq1 : goal.returns-then-out-eq1
-returns-then-out-eq1 c =
-    let a = c.args in
-    odd_out a.verbs.now a.points.now a.tolerance a.out.now a.ends.now a.marks.now c.if-out-eq1.true _ c.refusal.ensures
-
-pub returns-then-bad-ne0 : goal.returns-then-bad-ne0
-returns-then-bad-ne0 c =
-    let a = c.args in
-    bad_path_lem a.verbs.now a.points.now a.tolerance a.out.now a.ends.now a.marks.now c.if-out-eq1.false _ c.check-bad.ensures c.if-bad-ne0.true _ c.refusal-then-bad-ne0.ensures
-
-pub measure-t-requires : goal.measure-t-requires
-measure-t-requires c =
-    let a = c.args in
-    let s = sound a.verbs.now a.points.now (sym c.check-bad.ensures ∙ c.if-bad-ne0.false) in
-    (s.few, omega (arith, s.used))
+returns-then-out-eq1 c = let a = c.args in odd_out a.verbs.now a.points.now a.tolerance _ _ _ c.if-out-eq1.true
 
 pub returns-then-out-n : goal.returns-then-out-n
 returns-then-out-n c =
     let a = c.args in
-    few_points a.verbs.now a.points.now a.tolerance a.out.now a.ends.now a.marks.now c.if-out-eq1.false _ c.check-bad.ensures c.if-bad-ne0.false _ c.measure-t.ensures.0 c.if-out-n.true _ c.refusal-then-out-n.ensures
+    few_points a.verbs.now a.points.now a.tolerance _ _ _ c.if-out-eq1.false _ (passed _ _ _ (sym c.new.ensures ∙ c.in_ok-path.was)) _ c.measure-t.ensures.same c.if-out-n.true
 
 pub returns-then-ends-t : goal.returns-then-ends-t
 returns-then-ends-t c =
     let a = c.args in
-    few_ends a.verbs.now a.points.now a.tolerance a.out.now a.ends.now a.marks.now c.if-out-eq1.false _ c.check-bad.ensures c.if-bad-ne0.false _ c.measure-t.ensures.0 c.if-out-n.false c.if-ends-t.true _ c.refusal-then-ends-t.ensures
+    few_ends a.verbs.now a.points.now a.tolerance _ _ _ c.if-out-eq1.false _ (passed _ _ _ (sym c.new.ensures ∙ c.in_ok-path.was)) _ c.measure-t.ensures.same c.if-out-n.false c.if-ends-t.true
 
 pub returns-then-marks-t : goal.returns-then-marks-t
 returns-then-marks-t c =
     let a = c.args in
-    few_marks a.verbs.now a.points.now a.tolerance a.out.now a.ends.now a.marks.now c.if-out-eq1.false _ c.check-bad.ensures c.if-bad-ne0.false _ c.measure-t.ensures.0 c.if-out-n.false c.if-ends-t.false c.if-marks-t.true _ c.refusal-then-marks-t.ensures
+    few_marks a.verbs.now a.points.now a.tolerance _ _ _ c.if-out-eq1.false _ (passed _ _ _ (sym c.new.ensures ∙ c.in_ok-path.was)) _ c.measure-t.ensures.same c.if-out-n.false c.if-ends-t.false c.if-marks-t.true
 
 pub write_path-requires : goal.write_path-requires
 write_path-requires c =
     let a = c.args in
-    has_room a.verbs.now a.points.now a.tolerance a.out.now a.ends.now a.marks.now c.if-out-eq1.false _ c.check-bad.ensures c.if-bad-ne0.false _ c.measure-t.ensures.0 c.if-out-n.false c.if-ends-t.false c.if-marks-t.false
+    let r = has_room a.verbs.now a.points.now a.tolerance a.out.now a.ends.now a.marks.now c.if-out-eq1.false _ (passed _ _ _ (sym c.new.ensures ∙ c.in_ok-path.was)) _ c.measure-t.ensures.same c.if-out-n.false c.if-ends-t.false c.if-marks-t.false in
+    record { out = r.0; ends = r.1; marks = r.2 }
 
 pub returns : goal.returns
 returns c =
     let a = c.args in
-    done a.verbs.now a.points.now a.tolerance a.out.now a.ends.now a.marks.now c.if-out-eq1.false _ c.check-bad.ensures c.if-bad-ne0.false _ c.measure-t.ensures.0 c.if-out-n.false c.if-ends-t.false c.if-marks-t.false _ _ _ c.write_path.ensures
+    let w = c.write_path.ensures in
+    done a.verbs.now a.points.now a.tolerance _ _ _ c.if-out-eq1.false _ (passed _ _ _ (sym c.new.ensures ∙ c.in_ok-path.was)) _ c.measure-t.ensures.same c.if-out-n.false c.if-ends-t.false c.if-marks-t.false _ _ _ w.out w.ends w.marks
+
+pub returns-in_err-path : goal.returns-in_err-path
+returns-in_err-path c =
+    let a = c.args in
+    let p = err_from_is_err_and c.from_residual.result c.from_residual.ensures.1 in
+    rw (p.1, p.2) (bad_path a.verbs.now a.points.now a.tolerance _ _ _ c.if-out-eq1.false _ (refused _ _ _ (sym c.new.ensures ∙ c.in_err-path.was)))

@@ -1,9 +1,14 @@
-use mathlib.Core.Path.{sym, ◌∙◌}
-use Rattle.curve.proofs.Bends.{bend_nan, bend_plain}
+use mathlib.Core.Path.{◌≡◌, refl, sym, ◌∙◌}
+use lib.Ieee.{nan, div, of_bits}
+use Rattle.float.specs.Arith.{f0, over}
+use Rattle.curve.specs.Count.{bend}
 use Rattle.wang.proofs.second_difference_magnitude.Goals as goal
 
-pub returns-then-is_nan : goal.returns-then-is_nan
-returns-then-is_nan c = bend_nan _ (sym c.is_nan.ensures ∙ c.if-is_nan.true)
+-- the code's NaN is the definition's
+quotient : over f0 f0 ≡ nan
+unfolding div of_bits
+quotient = refl
 
-pub returns : goal.returns
-returns c = rw (c.max_element.ensures, c.abs.ensures) (bend_plain c.args.v (sym c.is_nan.ensures ∙ c.if-is_nan.false))
+pub returns-then-is_nan : goal.returns-then-is_nan
+unfolding bend
+returns-then-is_nan c = rw (quotient, sym c.is_nan.ensures ∙ c.if-is_nan.true)

@@ -1,56 +1,42 @@
-use mathlib.Core.Path.{refl, ap}
-use mathlib.Core.Bool.{false≢true}
-use native.Mathlib.Omega.{arith}
-use lib.ListN.{length}
-use lib.Seq.{sets}
-use Rattle.path.specs.Segment.{segments}
-use native.Mathlib.Nat.{zero-add}
-use Rattle.write.proofs.Writes.{marks_begin, turn_room, turn_ends, turn, last_room, last_points, last_ends, last_marks}
-use Rattle.polyline.specs.Pass.{close_before}
-use Rattle.path.proofs.Steps.{Stepped, stepped, ended}
+use Rattle.write.proofs.Writes.{begins, turn_room, turn_ends, turn_marks, turn, last_room, last_room_marks, last_points, last_ends, last_marks}
 use Rattle.write.proofs.write_path.Goals as goal
 
-pub loop-s-init : goal.loop-s-init
-loop-s-init c =
-    let a = c.args in
-    rw c.start_of_path-w.ensures
-    (record {
-      here = omega arith;
-      behind = λ t. absurd (false≢true t);
-      reads = simp zero-add (omega arith);
-      same_out = refl;
-      same_ends = refl;
-      same_marks = refl;
-      room = simp zero-add (omega arith);
-      room_ends = simp zero-add (omega arith);
-      room_marks = simp zero-add (omega (arith, ap length (marks_begin (close_before a.verbs.now 0) (segments a.verbs.now a.points.now))));
-      points = refl;
-      polys = refl;
-      marked = ap (sets a.marks.now 0) (marks_begin (close_before a.verbs.now 0) (segments a.verbs.now a.points.now));
-    })
+pub loop-i-init : goal.loop-i-init
+loop-i-init c =
+    rw (c.start_of_path-w.ensures, c.into_iter-i-iterator.ensures.into_iter_gives, c.enumerate-i-items.ensures.source, c.enumerate-i-items.ensures.count, c.segments.ensures.all)
+    (begins _ _ _ _ _ _ c.requires.out c.requires.ends c.requires.marks)
 
-pub end_if-requires : goal.end_if-requires
-end_if-requires c = last_room c.loop-s.invariant (ended _ c.args.points.now _ _ c.next-step.ensures c.in_default.is c.loop-s.invariant.reads)
+pub end_if-k-requires-clause-ends : goal.end_if-k-requires-clause-ends
+end_if-k-requires-clause-ends c = rw c.ends_polyline.ensures (turn_ends c.loop-i.invariant _ _ c.in-Some.ensures.steps.0)
 
-pub returns-in_default : goal.returns-in_default
-returns-in_default c =
-    let h = ended _ c.args.points.now _ _ c.next-step.ensures c.in_default.is c.loop-s.invariant.reads in
-    let i = c.loop-s.invariant in
-    let e = c.end_if.ensures in
-    (last_points i h, last_ends i h e, last_marks i h e)
-
-pub end_if-k-requires : goal.end_if-k-requires
-end_if-k-requires c = let g : Stepped c.args.verbs.now c.args.points.now c.loop-s.c c.in-Next.s c.in-Next.d = stepped _ _ _ _ _ _ c.next-step.ensures c.in-Next.is in turn_ends c.loop-s.invariant g.inside _ g.segment _ c.ends_polyline-stopped.ensures
+pub end_if-k-requires-clause-marks : goal.end_if-k-requires-clause-marks
+end_if-k-requires-clause-marks c = rw c.ends_polyline.ensures (turn_marks c.loop-i.invariant _ _ c.in-Some.ensures.steps.0)
 
 pub write_segment-r-requires : goal.write_segment-r-requires
-write_segment-r-requires c = let g : Stepped c.args.verbs.now c.args.points.now c.loop-s.c c.in-Next.s c.in-Next.d = stepped _ _ _ _ _ _ c.next-step.ensures c.in-Next.is in turn_room c.loop-s.invariant g.inside _ g.segment
+write_segment-r-requires c = turn_room c.loop-i.invariant _ _ c.in-Some.ensures.steps.0
 
-pub loop-s-smaller : goal.loop-s-smaller
-loop-s-smaller c = let g : Stepped c.args.verbs.now c.args.points.now c.loop-s.c c.in-Next.s c.in-Next.d = stepped _ _ _ _ _ _ c.next-step.ensures c.in-Next.is in rw g.cursor (omega (arith, g.inside))
+pub loop-i-preserved : goal.loop-i-preserved
+loop-i-preserved c =
+    let step = c.in-Some.ensures.steps in
+    let noted = c.end_if-k.ensures in
+    rw (c.write_segment-r.ensures.spot, step.2)
+    (turn c.loop-i.invariant _ _ step.0 (rw (c.ends_polyline.ensures, step.1, c.verbs-verbs.ensures) at noted) c.write_segment-r.ensures.written)
 
-pub loop-s-preserved : goal.loop-s-preserved
-loop-s-preserved c =
-    let g : Stepped c.args.verbs.now c.args.points.now c.loop-s.c c.in-Next.s c.in-Next.d = stepped _ _ _ _ _ _ c.next-step.ensures c.in-Next.is in
-    rw g.cursor
-    (turn c.loop-s.invariant g.inside _ g.segment _ c.ends_polyline-stopped.ensures c.end_if-k.ensures
-    c.write_segment-r.ensures.0 _ c.write_segment-r.ensures.1 _ refl)
+pub end_if-requires-clause-ends : goal.end_if-requires-clause-ends
+end_if-requires-clause-ends c = last_room c.loop-i.invariant c.in-None.ensures.steps.0.0
+
+pub end_if-requires-clause-marks : goal.end_if-requires-clause-marks
+end_if-requires-clause-marks c = last_room_marks c.loop-i.invariant c.in-None.ensures.steps.0.0
+
+pub returns-clause-out : goal.returns-clause-out
+returns-clause-out c = last_points c.loop-i.invariant c.in-None.ensures.steps.0.0
+
+pub returns-clause-ends : goal.returns-clause-ends
+returns-clause-ends c =
+    let noted = c.end_if.ensures in
+    last_ends c.loop-i.invariant c.in-None.ensures.steps.0.0 (rw c.verbs-verbs.ensures at noted)
+
+pub returns-clause-marks : goal.returns-clause-marks
+returns-clause-marks c =
+    let noted = c.end_if.ensures in
+    last_marks c.loop-i.invariant c.in-None.ensures.steps.0.0 (rw c.verbs-verbs.ensures at noted)

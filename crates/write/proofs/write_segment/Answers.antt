@@ -1,32 +1,44 @@
-use mathlib.Core.Path.{refl, ap}
+use mathlib.Core.Path.{ap}
 use native.Mathlib.Omega.{arith}
 use lib.ListN.{length}
-use Rattle.write.proofs.Writes.{as_move, as_line, as_quad, as_cubic, as_close, to_move, to_line, to_quad, to_cubic, to_close}
+use Rattle.std.proofs.Common.{rules}
+use Rattle.curve.specs.Count.{eval_quad, eval_cubic}
+use Rattle.write.proofs.Writes.{a_line, a_quad, a_cubic, a_close}
 use Rattle.write.proofs.write_segment.Goals as goal
 
-pub draw_line-n-requires : goal.draw_line-n-requires
-draw_line-n-requires c = let a = c.args in omega (arith, ap length (as_line a.tolerance a.w a.s _ c.in-Line.is), c.requires)
+pub draw-requires-clause-room : goal.draw-requires-clause-room
+draw-requires-clause-room c = let a = c.args in omega (arith, c.requires, (a_line a.tolerance a.w a.s _ c.in-Line.is).long)
 
-pub draw_quad-n-requires : goal.draw_quad-n-requires
-draw_quad-n-requires c = let a = c.args in omega (arith, ap length (as_quad a.tolerance a.w a.s _ _ c.in-Quad.is), c.requires)
+pub draw-requires-in-Quad-clause-count : goal.draw-requires-in-Quad-clause-count
+draw-requires-in-Quad-clause-count c = let a = c.args in (a_quad a.tolerance a.w a.s _ _ c.in-Quad.is _ c.quad_segment_count-n.ensures).count
 
-pub draw_cubic-n-requires : goal.draw_cubic-n-requires
-draw_cubic-n-requires c = let a = c.args in omega (arith, ap length (as_cubic a.tolerance a.w a.s _ _ _ c.in-Cubic.is), c.requires)
+pub draw-requires-in-Quad-clause-room : goal.draw-requires-in-Quad-clause-room
+draw-requires-in-Quad-clause-room c = let a = c.args in omega (arith, c.requires, (a_quad a.tolerance a.w a.s _ _ c.in-Quad.is _ c.quad_segment_count-n.ensures).long)
 
-pub put_if-n-requires : goal.put_if-n-requires
-put_if-n-requires c = let a = c.args in omega (arith, ap length (as_close a.tolerance a.w a.s _ c.in-Close.is c.close_adds-adds.ensures), c.requires)
+pub draw-requires-in-Cubic-clause-count : goal.draw-requires-in-Cubic-clause-count
+draw-requires-in-Cubic-clause-count c = let a = c.args in (a_cubic a.tolerance a.w a.s _ _ _ c.in-Cubic.is _ c.cubic_segment_count-n.ensures).count
 
-pub returns-in-Move : goal.returns-in-Move
-returns-in-Move c = let a = c.args in (rw (as_move a.tolerance a.w a.s _ c.in-Move.is) (record { stored = refl; moved = omega arith }), to_move a.tolerance a.w a.s _ c.in-Move.is c.move_to.ensures)
+pub draw-requires-in-Cubic-clause-room : goal.draw-requires-in-Cubic-clause-room
+draw-requires-in-Cubic-clause-room c = let a = c.args in omega (arith, c.requires, (a_cubic a.tolerance a.w a.s _ _ _ c.in-Cubic.is _ c.cubic_segment_count-n.ensures).long)
 
-pub returns-in-Line : goal.returns-in-Line
-returns-in-Line c = let a = c.args in (rw (as_line a.tolerance a.w a.s _ c.in-Line.is) c.draw_line-n.ensures, to_line a.tolerance a.w a.s _ c.in-Line.is c.drawn_to.ensures)
+pub put_if-requires : goal.put_if-requires
+put_if-requires c = let a = c.args in omega (arith, c.requires, ap length (a_close a.tolerance a.w a.s _ c.in-Close.is c.close_adds.ensures))
 
-pub returns-in-Quad : goal.returns-in-Quad
-returns-in-Quad c = let a = c.args in (rw (as_quad a.tolerance a.w a.s _ _ c.in-Quad.is) c.draw_quad-n.ensures, to_quad a.tolerance a.w a.s _ _ c.in-Quad.is c.drawn_to-in-Quad.ensures)
+pub returns-in-Line-clause-written : goal.returns-in-Line-clause-written
+returns-in-Line-clause-written c =
+    let a = c.args in
+    let p = c.in-Line.p in
+    rw (a_line a.tolerance a.w a.s _ c.in-Line.is).is (c.draw.ensures.written (λ t. p) (λ t q e. search rules))
 
-pub returns-in-Cubic : goal.returns-in-Cubic
-returns-in-Cubic c = let a = c.args in (rw (as_cubic a.tolerance a.w a.s _ _ _ c.in-Cubic.is) c.draw_cubic-n.ensures, to_cubic a.tolerance a.w a.s _ _ _ c.in-Cubic.is c.drawn_to-in-Cubic.ensures)
+pub returns-in-Quad-clause-written : goal.returns-in-Quad-clause-written
+returns-in-Quad-clause-written c =
+    let a = c.args in
+    rw (a_quad a.tolerance a.w a.s _ _ c.in-Quad.is _ c.quad_segment_count-n.ensures).is (c.draw-in-Quad.ensures.written (eval_quad _ _ _) (λ t q e. search rules))
 
-pub returns-in-Close : goal.returns-in-Close
-returns-in-Close c = let a = c.args in (rw (as_close a.tolerance a.w a.s _ c.in-Close.is c.close_adds-adds.ensures) c.put_if-n.ensures, to_close a.tolerance a.w a.s c.in-Close.is c.close.ensures)
+pub returns-in-Cubic-clause-written : goal.returns-in-Cubic-clause-written
+returns-in-Cubic-clause-written c =
+    let a = c.args in
+    rw (a_cubic a.tolerance a.w a.s _ _ _ c.in-Cubic.is _ c.cubic_segment_count-n.ensures).is (c.draw-in-Cubic.ensures.written (eval_cubic _ _ _ _) (λ t q e. search rules))
+
+pub returns-in-Close-clause-written : goal.returns-in-Close-clause-written
+returns-in-Close-clause-written c = let a = c.args in rw (a_close a.tolerance a.w a.s _ c.in-Close.is c.close_adds.ensures) c.put_if.ensures

@@ -1,4 +1,0 @@
-use Rattle.spot.proofs.start_of_path.Goals as goal
-
-pub returns : goal.returns
-returns c = cc

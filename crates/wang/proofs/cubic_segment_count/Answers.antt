@@ -1,6 +1,0 @@
-use mathlib.Core.Path.{◌∙◌, ap}
-use Rattle.float.specs.Count.{segment_answer}
-use Rattle.wang.proofs.cubic_segment_count.Goals as goal
-
-pub returns : goal.returns
-returns c = c.segment_count.ensures ∙ ap segment_answer c.cubic_s.ensures
