@@ -1,7 +1,7 @@
 // The numbers of a dash cycle: where a walk begins, and which interval is next.
 #![tactic(auto)]
 
-ghost use Rattle.std.specs.Prelude.{◌≡◌, ◌<◌, length, drop};
+ghost use Rattle.std.specs.Prelude.{◌≡◌, ◌<◌, length};
 ghost use Rattle.events.specs.Zeros.{is_zero, after, first_above, next, one_above, gaps_only};
 ghost use Rattle.events.specs.Phase.{start_of};
 ghost use Rattle.events.specs.Walk.{nothing_left, turned};
@@ -34,14 +34,11 @@ fn first_above(cycle: &[f32], index: usize) -> usize
     ensures { (result ≡ first_above cycle.now index) × (result < length cycle.now) }
 {
     let mut i = index;
-    let mut k = 0usize;
-    while k < cycle.len() {
-        if is_zero(cycle[i]) {
-            i = index_after(cycle, i);
-            k += 1;
-        } else {
+    for _turn in 0..cycle.len() {
+        if !is_zero(cycle[i]) {
             return i;
         }
+        i = index_after(cycle, i);
     }
     i
 }
@@ -58,29 +55,21 @@ fn next_above(cycle: &[f32], index: usize) -> usize
     i
 }
 
-// Whether one of the intervals of number `from`, `from` + 2, .. is not 0.
-fn one_above(cycle: &[f32], from: usize) -> bool
-    ensures { result ≡ one_above (drop from cycle.now) }
+// Whether one of the intervals of number 0, 2, 4, .. is not 0.
+fn one_above(intervals: &[f32]) -> bool
+    ensures { result ≡ one_above intervals.now }
 {
-    let mut i = from;
-    while i < cycle.len() {
-        if is_zero(cycle[i]) {
-            i += 2;
-        } else {
-            return true;
-        }
-    }
-    false
+    intervals.iter().step_by(2).any(|x| !is_zero(*x))
 }
 
 // Every drawn interval is 0, and some gap is not: whatever is walked, nothing is drawn.
 pub fn gaps_only(cycle: &[f32]) -> bool
     ensures { result ≡ gaps_only cycle.now }
 {
-    if one_above(cycle, 0) {
-        return false;
+    match cycle {
+        [] => false,
+        [_, from_first_gap @ ..] => !one_above(cycle) && one_above(from_first_gap),
     }
-    one_above(cycle, 1)
 }
 
 // ---- the phase

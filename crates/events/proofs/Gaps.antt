@@ -29,37 +29,6 @@ use Rattle.events.proofs.Source.{or_first, or_rest}
 
 -- ---- which are above 0
 
-one_rest : (x : Float) (l : List Float) → le x f0 ≡ true → one_above (drop 1 l) ≡ one_above (x ∷ l)
-one_rest x [] h = sym (ap not h)
-one_rest x (y ∷ xs) h = rw h
-
-drop-one : (k : ℕ) (l : List Float) → drop (suc k) l ≡ drop 1 (drop k l)
-drop-one zero l = refl
-drop-one (suc k) [] = refl
-drop-one (suc k) (x ∷ xs) = drop-one k xs
-
--- two more are looked at
-pub one_on : (cs : List Float) (i : ℕ) → i < length cs → zero_at cs i ≡ true → one_above (drop (i + 2) cs) ≡ one_above (drop i cs)
-one_on cs i l h =
-    ap one_above (two cs i) ∙ one_rest (get_or cs i nan) (drop (i + 1) cs) h ∙ ap one_above (sym (drop-next cs i nan l))
-  where
-    two : (l : List Float) (i : ℕ) → drop (i + 2) l ≡ drop 1 (drop (i + 1) l)
-    two l i = let e : i + 2 ≡ suc (i + 1) = omega arith in ap (λ (k : ℕ). drop k l) e ∙ drop-one (i + 1) l
-
-one_here : (x : Float) (l : List Float) → le x f0 ≡ false → true ≡ one_above (x ∷ l)
-one_here x [] h = sym (ap not h)
-one_here x (y ∷ xs) h = rw h
-
-pub one_found : (cs : List Float) (i : ℕ) → i < length cs → zero_at cs i ≡ false → true ≡ one_above (drop i cs)
-one_found cs i l h = one_here (get_or cs i nan) (drop (i + 1) cs) h ∙ ap one_above (sym (drop-next cs i nan l))
-
-pub one_none : (cs : List Float) (i : ℕ) → length cs ≤ i → false ≡ one_above (drop i cs)
-one_none cs i l = nothing (drop i cs) (omega (arith, length-drop i cs, l))
-  where
-    nothing : (l : List Float) → length l ≤ 0 → false ≡ one_above l
-    nothing [] h = refl
-    nothing (x ∷ l) h = absurd (omega arith)
-
 none_above : (l : List Float) → one_above l ≡ false → (k : ℕ) → 2 * k < length l → zero_at l (2 * k) ≡ true
 none_above [] h k m = absurd (omega arith)
 none_above (x ∷ []) h zero m = not-false (le x f0) h
@@ -69,24 +38,50 @@ none_above (x ∷ y ∷ xs) h (suc k) m =
     let e : 2 * suc k ≡ suc (suc (2 * k)) = omega arith in
     ap (zero_at (x ∷ y ∷ xs)) e ∙ none_above xs (or_rest (not (le x f0)) (one_above xs) h) k (omega (arith, m))
 
+-- one that is above 0, of even number
+record One (l : List Float) : Type 0 where
+  half : ℕ
+  within : 2 * half < length l
+  found : zero_at l (2 * half) ≡ false
+
+one_found : (l : List Float) → one_above l ≡ true → One l
+one_found [] h = absurd (true≢false (sym h))
+one_found (x ∷ []) h = record { half = 0; within = omega arith; found = not-true (le x f0) h }
+one_found (x ∷ y ∷ xs) h = go (le x f0) refl h (λ k. one_found xs k)
+  where
+    later : One xs → One (x ∷ y ∷ xs)
+    later f = let e : 2 * suc f.half ≡ suc (suc (2 * f.half)) = omega arith in record { half = suc f.half; within = omega (arith, f.within); found = ap (zero_at (x ∷ y ∷ xs)) e ∙ f.found }
+
+    go : (b : Bool) → le x f0 ≡ b → not b || one_above xs ≡ true → (one_above xs ≡ true → One xs) → One (x ∷ y ∷ xs)
+    go false e k f = record { half = 0; within = omega arith; found = e }
+    go true e k f = later (f k)
+
+-- what looks at each interval of even number, and finds one or none
+pub one_of : (b : Bool) (l : List Float) → (b ≡ true → (k : ℕ) × (k * 2 < length l) × (zero_at l (k * 2) ≡ false)) → (b ≡ false → (k : ℕ) → k * 2 < length l → zero_at l (k * 2) ≡ true) →
+    b ≡ one_above l
+one_of true l found none = go (one_above l) refl
+  where
+    go : (d : Bool) → one_above l ≡ d → true ≡ d
+    go true e = refl
+    go false e =
+        let f = found refl in
+        let k : 2 * f.0 ≡ f.0 * 2 = omega arith in
+        absurd (true≢false (sym (ap (zero_at l) (sym k) ∙ none_above l e f.0 (omega (arith, f.1))) ∙ f.2))
+one_of false l found none = go (one_above l) refl
+  where
+    go : (d : Bool) → one_above l ≡ d → false ≡ d
+    go true e =
+        let f = one_found l e in
+        let k : f.half * 2 ≡ 2 * f.half = omega arith in
+        absurd (true≢false (sym (ap (zero_at l) (sym k) ∙ none refl f.half (omega (arith, f.within))) ∙ f.found))
+    go false e = refl
+
+-- ---- once round, every interval is met
+
 record Found (l : List Float) : Type 0 where
   at : ℕ
   within : at < length l
   found : zero_at l at ≡ false
-
-found_one : (l : List Float) → one_above l ≡ true → Found l
-found_one [] h = absurd (true≢false (sym h))
-found_one (x ∷ []) h = record { at = 0; within = omega arith; found = not-true (le x f0) h }
-found_one (x ∷ y ∷ xs) h = go (le x f0) refl h (λ k. found_one xs k)
-  where
-    later : Found xs → Found (x ∷ y ∷ xs)
-    later f = record { at = suc (suc f.at); within = omega (arith, f.within); found = f.found }
-
-    go : (b : Bool) → le x f0 ≡ b → not b || one_above xs ≡ true → (one_above xs ≡ true → Found xs) → Found (x ∷ y ∷ xs)
-    go false e k f = record { at = 0; within = omega arith; found = e }
-    go true e k f = later (f k)
-
--- ---- once round, every interval is met
 
 module _ (cs : List Float) where
   found_by : (k m : ℕ) (b : Bool) (i : ℕ) → zero_at cs i ≡ b → m < k → zero_at cs (ahead cs m i) ≡ false → zero_at cs (above cs k b i) ≡ false
@@ -182,8 +177,8 @@ module _ (cs : List Float) (only : gaps_only cs ≡ true) where
 
   some : Found cs
   some =
-      let f = found_one (drop 1 cs) (both_second (not (one_above cs)) (one_above (drop 1 cs)) only) in
-      record { at = 1 + f.at; within = omega (arith, f.within, length-drop 1 cs); found = ap (λ (x : Float). le x f0) (sym (get_or-drop 1 cs f.at nan)) ∙ f.found }
+      let f = one_found (drop 1 cs) (both_second (not (one_above cs)) (one_above (drop 1 cs)) only) in
+      record { at = 1 + 2 * f.half; within = omega (arith, f.within, length-drop 1 cs); found = ap (λ (x : Float). le x f0) (sym (get_or-drop 1 cs (2 * f.half) nan)) ∙ f.found }
 
   -- an interval that is not passed over is a gap
   gap : (i : ℕ) → i < length cs → zero_at cs i ≡ false → eqb (i % 2) 0 ≡ false

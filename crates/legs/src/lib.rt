@@ -1,13 +1,13 @@
 // A leg of a polyline: its length, and what a turn of the walk tells inside it and at its end.
 #![tactic(auto)]
 
-ghost use Rattle.std.specs.Prelude.{◌≡◌, not, ◌&&◌, length};
+ghost use Rattle.std.specs.Prelude.{◌≡◌, ◌+◌, ◌-◌, ◌*◌, ◌<◌, not, ◌&&◌, length};
 ghost use Rattle.std.specs.Float.Ieee.{le};
 ghost use Rattle.float.specs.Arith.{f0};
 ghost use Rattle.float.specs.Small.{is_finite};
-ghost use Rattle.vec2.specs.Vec2.{◌⊖◌, len};
+ghost use Rattle.vec2.specs.Points.{point_at};
 ghost use Rattle.events.specs.Walk.{point_on, inside as insideOf, resting as restingOf, rested, leg_of};
-ghost use Rattle.strokes.specs.Lengths.{KeptLengths, KeptAt};
+ghost use Rattle.strokes.specs.Lengths.{KeptLengths};
 
 use events::{Event, Leg, Pos};
 use vec2::Vec2;
@@ -18,7 +18,7 @@ fn point_on(g: Leg, t: f32) -> Vec2
 {
     let from = g.from;
     let way = g.way;
-    from.add(way.mul(t / g.length))
+    from + way * (t / g.length)
 }
 
 // An interval ends inside the leg, at t.
@@ -59,39 +59,32 @@ pub fn rested_at(g: Leg, p: Pos, t: f32) -> Pos
 pub fn keep_lengths(points: &[f32], kept: &mut [f32])
     ensures { KeptLengths kept.new points.now }
 {
-    let mut k = 0usize;
-    while k < kept.len() {
-        if points.len() < 2 * k + 4 {
+    for (k, length) in kept.iter_mut().enumerate() {
+        if points.len() / 2 <= k + 1 {
             return;
         }
         let a = path::point_at(points, k);
         let b = path::point_at(points, k + 1);
-        kept[k] = b.sub(a).length();
-        k += 1;
+        *length = (b - a).length();
     }
 }
 
-// The length of a way: the one kept at k, or worked out where none is.
-fn length_at(lengths: &[f32], k: usize, way: Vec2) -> f32
-    requires { KeptAt lengths.now k way }
-    ensures { result ≡ len way }
+// The leg that leads to point k. Its length is the one that is kept, or worked out where none is.
+pub fn leg_to(points: &[f32], lengths: &[f32], k: usize) -> Leg
+    requires { (0 < k) × (2 * k + 1 < length points.now) × KeptLengths lengths.now points.now }
+    ensures { result ≡ leg_of (point_at points.now (k - 1)) (point_at points.now k) }
 {
-    if k < lengths.len() {
-        return lengths[k];
-    }
-    way.length()
-}
-
-pub fn leg_of(lengths: &[f32], k: usize, a: Vec2, b: Vec2) -> Leg
-    requires { KeptAt lengths.now k (b ⊖ a) }
-    ensures { result ≡ leg_of a b }
-{
-    let way = b.sub(a);
-    let length = length_at(lengths, k, way);
+    let from = path::point_at(points, k - 1);
+    let to = path::point_at(points, k);
+    let way = to - from;
+    let length = match lengths.get(k - 1) {
+        Some(kept) => *kept,
+        None => way.length(),
+    };
     Leg {
-        from: a,
+        from,
         way,
-        to: b,
+        to,
         length,
     }
 }

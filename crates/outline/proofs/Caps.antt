@@ -1,6 +1,6 @@
 -- How many verbs the dash buffers take, and what the count says of the output's room. Assumes nothing.
 use mathlib.Core.Path.{◌≡◌, refl, sym, ◌∙◌, ap}
-use Prim.Native.Nat.{ℕ, ◌/◌, ◌≤◌, ◌<◌}
+use Prim.Native.Nat.{ℕ, ◌/◌, ◌≤◌}
 use native.Mathlib.Omega.{arith}
 use native.Mathlib.Nat.{zero-add, le_refl}
 use mathlib.Core.Bool.{Bool, true, false, ◌&&◌, true≢false}
@@ -9,7 +9,7 @@ use lib.ListN.{length}
 use lib.Seq.{sets}
 use lib.Dec.{leb}
 use lib.Ieee.{Float}
-use borrow.Author.Tests.{le-leb, lt-leb, leb-true, leb-false}
+use borrow.Author.Tests.{le-leb, leb-true, leb-false}
 use Rattle.vec2.specs.Points.{flat}
 use Rattle.path.specs.declared.Segment.{Segment}
 use Rattle.path.specs.declared.FillRule.{FillRule}
@@ -20,7 +20,6 @@ use Rattle.events.specs.declared.Pos.{Pos}
 use Rattle.events.specs.Walk.{walk_all}
 use Rattle.strokes.proofs.Lays.{walk_points}
 use Rattle.strokes.specs.Lay.{Out, out, laid, Room}
-use Rattle.strokes.specs.Count.{UpTo, itself}
 use Rattle.path.specs.declared.Refusal.TheVariants.{OutputFull}
 use Rattle.outline.specs.Answer.{refused_by, cut_into}
 use Rattle.outline.specs.Dash.{fits_both, out_fits, Cap, cut_outcome, out_if, out_outcome}
@@ -59,10 +58,9 @@ cap_is verbs floats r a b c most n = go (leb n r) refl
 pub cap_small : (verbs floats r : ℕ) → Cap verbs floats r → r ≤ 65536
 cap_small verbs floats r c = (fits r r verbs floats (c r ∙ le-leb r r (le_refl r))).limit
 
--- ---- what the count n says of the segments that it counts
+-- ---- what it says of the segments that they are no more than the cap, or are
 
-module _ (cs : List Float) (start : Pos) (ls : List (List Vec2)) (us : List ℕ) (gs : List Float) (cap : ℕ) (c : Cap (length us) (length gs) cap)
-    (n : ℕ) (u : UpTo itself cap (length (walk_all cs start ls)) n) where
+module _ (cs : List Float) (start : Pos) (ls : List (List Vec2)) (us : List ℕ) (gs : List Float) (cap : ℕ) (c : Cap (length us) (length gs) cap) where
   abbrev ss : List Segment
   ss = walk_all cs start ls
 
@@ -73,12 +71,12 @@ module _ (cs : List Float) (start : Pos) (ls : List (List Vec2)) (us : List ℕ)
   fits_is = rw one (c (length ss))
 
   module _ (np k held : ℕ) (rule : FillRule) where
-    pub too_many : cap < n → cut_outcome (refused_by OutputFull) us gs ≡ out_outcome ss np k held rule us gs
-    too_many h = let e : out_fits ss us gs ≡ false = fits_is ∙ lt-leb (length ss) cap (u.over h) in ap (λ (b : Bool). out_if b ss np k held rule us gs) (sym e)
+    pub too_many : leb (length ss) cap ≡ false → cut_outcome (refused_by OutputFull) us gs ≡ out_outcome ss np k held rule us gs
+    too_many h = ap (λ (b : Bool). out_if b ss np k held rule us gs) (sym (fits_is ∙ h))
 
-  module _ (h : n ≤ cap) where
+  module _ (h : leb (length ss) cap ≡ true) where
     all_fits : out_fits ss us gs ≡ true
-    all_fits = fits_is ∙ le-leb (length ss) cap (omega (arith, h, u.exact h))
+    all_fits = fits_is ∙ h
 
     pub has_room : Room (length us) (length gs) (laid (out us gs 0) ss)
     has_room = let f = fits (length ss) (length (all_points ss)) (length us) (length gs) all_fits in (omega (arith, f.verb), omega (arith, f.point))

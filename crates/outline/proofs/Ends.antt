@@ -2,21 +2,21 @@
 use mathlib.Core.Path.{◌≡◌, refl, sym, ◌∙◌, ap, subst}
 use Prim.Native.Nat.{ℕ, zero, suc, ◌+◌, ◌-◌, ◌*◌, ◌≤◌, ◌<◌}
 use native.Mathlib.Omega.{arith}
-use mathlib.Core.Bool.{false}
+use mathlib.Core.Bool.{Bool, true, false, true≢false}
 use mathlib.Core.List.{List, [], ◌∷◌, ◌++◌}
-use lib.ListN.{length, get_or, take, drop, length-append}
+use lib.ListN.{length, get_or, take, drop}
 use lib.Seq.{drop-drop}
 use lib.Ieee.{Float}
 use Rattle.vec2.specs.declared.Vec2.{Vec2}
 use Rattle.vec2.specs.Vec2.{vec}
 use Rattle.vec2.specs.Points.{points_in}
-use Rattle.path.specs.declared.Segment.{Segment}
 use Rattle.polyline.specs.Polylines.{polylines}
 use Rattle.events.specs.declared.Pos.{Pos}
-use Rattle.events.specs.Walk.{walk_polyline, walk_all}
-use Rattle.events.specs.Drawn.{drawn}
-use Rattle.strokes.specs.Lay.{Out, Room, laid}
-use Rattle.strokes.proofs.Lays.{laid_append, room_front}
+use Rattle.events.specs.declared.Event.{Event}
+use Rattle.events.specs.declared.Event.TheVariants.{Nothing}
+use Rattle.events.specs.Walk.{walk_polyline}
+use Rattle.strokes.specs.Pen.{told_all, TakesAll, Unless, Laws, all_events}
+use Rattle.strokes.proofs.Pens.{takes_first, part_over, part_on, part_left}
 use Rattle.vec2.proofs.Lists.{drop-next}
 use Rattle.outline.specs.Ends.{Ordered}
 
@@ -45,40 +45,62 @@ drop-on from e l h = let d : from + (e - from) ≡ e = omega arith in drop-drop 
 -- ---- polylines
 
 module _ (cs : List Float) (start : Pos) (fs : List Float) where
-  -- what is left to draw: the polylines from the point `from` on, which end at es
-  abbrev pub left : ℕ → List ℕ → List Segment
-  left from es = walk_all cs start (polylines from (drop from (points_in fs)) es)
+  -- what is left to tell: the polylines from the point `from` on, which end at es
+  abbrev pub left : ℕ → List ℕ → List Event
+  left from es = all_events cs start (polylines from (drop from (points_in fs)) es)
 
   -- the first of them, as the code hands it on
-  abbrev pub one : ℕ → ℕ → List Segment
-  one from e = drawn false (walk_polyline cs start (points_in (take (2 * e - 2 * from) (drop (2 * from) fs))))
+  abbrev pub one : ℕ → ℕ → List Event
+  one from e = Nothing ∷ walk_polyline cs start (points_in (take (2 * e - 2 * from) (drop (2 * from) fs)))
 
-  pub left_on : (from e : ℕ) (es : List ℕ) → from ≤ e → one from e ++ left e es ≡ left from (e ∷ es)
+  left_on : (from e : ℕ) (es : List ℕ) → from ≤ e → left from (e ∷ es) ≡ one from e ++ left e es
   left_on from e es h =
-      let w : List Vec2 → List Segment = λ l. drawn false (walk_polyline cs start l) in
-      ap (λ (l : List Vec2). w l ++ left e es) (points_part from e fs h)
-      ∙ ap (λ (l : List Vec2). w (take (e - from) (drop from (points_in fs))) ++ walk_all cs start (polylines e l es)) (sym (drop-on from e (points_in fs) h))
+      let w : List Vec2 → List Event = λ l. Nothing ∷ walk_polyline cs start l in
+      ap (λ (l : List Vec2). w (take (e - from) (drop from (points_in fs))) ++ all_events cs start (polylines e l es)) (drop-on from e (points_in fs) h)
+      ∙ sym (ap (λ (l : List Vec2). w l ++ left e es) (points_part from e fs h))
 
-  module _ (ends : List ℕ) (from j : ℕ) (h : j < length ends) (m : from ≤ get_or ends j 0) where
-    abbrev e : ℕ
-    e = get_or ends j 0
+  -- what the loop over the polylines keeps, where the next one begins at the point `from` and ends at es
+  pub record Polylines {S : Type 0} (told : S → Event → S) (full : S → Bool) (takes : S → Event → Type 0) (ends : List ℕ) (s₀ : S) (from : ℕ) (es : List ℕ) (s : S) : Type 0 where
+    pub same : told_all told s (left from es) ≡ told_all told s₀ (left 0 ends)
+    pub taken : TakesAll told full takes s (left from es)
+    pub free : full s ≡ false
+    pub ordered : Ordered (length fs) from es
+    pub inside : 2 * from ≤ length fs
 
-    turn : one from e ++ left e (drop (j + 1) ends) ≡ left from (drop j ends)
-    turn = left_on from e (drop (j + 1) ends) m ∙ ap (left from) (sym (drop-next ends j 0 h))
+  module _ {S : Type 0} {told : S → Event → S} {begun : S → Vec2 → Bool → S} {full : S → Bool} {takes : S → Event → Type 0} {begins : S → Vec2 → Bool → Type 0}
+      (laws : Laws told begun full takes begins) {ends : List ℕ} {s₀ : S} (from j : ℕ) (s : S) (h : j < length ends) (i : Polylines told full takes ends s₀ from (drop j ends) s) where
+    abbrev end : ℕ
+    end = get_or ends j 0
 
-    -- counted
-    pub count_on : (n k : ℕ) → k ≡ n + length (one from e) → k + length (left e (drop (j + 1) ends)) ≡ n + length (left from (drop j ends))
-    count_on n k q = omega (arith, q, length-append (one from e) (left e (drop (j + 1) ends)), ap length turn)
+    ends_on : drop j ends ≡ end ∷ drop (j + 1) ends
+    ends_on = drop-next ends j 0 h
 
-    pub count_over : (cap n : ℕ) → cap < n + length (one from e) → cap < n + length (left from (drop j ends))
-    count_over cap n q = omega (arith, q, length-append (one from e) (left e (drop (j + 1) ends)), ap length turn)
+    pub in_order : (from ≤ end) × (2 * end ≤ length fs) × Ordered (length fs) end (drop (j + 1) ends)
+    in_order = subst (Ordered (length fs) from) ends_on i.ordered
 
-    -- laid
-    pub lay_on : (o o' : Out) → o' ≡ laid o (one from e) → laid o' (left e (drop (j + 1) ends)) ≡ laid o (left from (drop j ends))
-    lay_on o o' q = ap (λ (z : Out). laid z (left e (drop (j + 1) ends))) q ∙ laid_append o (one from e) (left e (drop (j + 1) ends)) ∙ ap (laid o) turn
+    next_is : left from (drop j ends) ≡ one from end ++ left end (drop (j + 1) ends)
+    next_is = ap (left from) ends_on ∙ left_on from end (drop (j + 1) ends) in_order.0
 
-    pub room_on : (n m : ℕ) (o : Out) → Room n m (laid o (left from (drop j ends))) → Room n m (laid o (one from e))
-    room_on n m o r = room_front n m (laid o (one from e)) (left e (drop (j + 1) ends)) (subst (Room n m) (sym (lay_on o (laid o (one from e)) refl)) r)
+    both_taken : TakesAll told full takes s (one from end ++ left end (drop (j + 1) ends))
+    both_taken = subst (TakesAll told full takes s) next_is i.taken
 
-pub ordered_on : (n from : ℕ) (ends : List ℕ) (j : ℕ) → j < length ends → Ordered n from (drop j ends) → (from ≤ get_or ends j 0) × (2 * get_or ends j 0 ≤ n) × Ordered n (get_or ends j 0) (drop (j + 1) ends)
-ordered_on n from ends j h o = subst (Ordered n from) (drop-next ends j 0 h) o
+    pub one_taken : TakesAll told full takes s (one from end)
+    one_taken = takes_first laws s (one from end) (left end (drop (j + 1) ends)) both_taken
+
+    module _ (r : S) (u : Unless full (told_all told s (one from end)) r) where
+      pub one_over : full r ≡ true → Unless full (told_all told s₀ (left 0 ends)) r
+      one_over f =
+          record {
+            exact = λ n. absurd (true≢false (sym f ∙ n));
+            over = λ n. subst (λ (z : S). full z ≡ true) (sym (ap (told_all told s) next_is) ∙ i.same) (part_over laws s r (one from end) (left end (drop (j + 1) ends)) u f);
+          }
+
+      pub one_on : full r ≡ false → Polylines told full takes ends s₀ end (drop (j + 1) ends) r
+      one_on f =
+          record {
+            same = part_on laws s r (one from end) (left end (drop (j + 1) ends)) u f ∙ sym (ap (told_all told s) next_is) ∙ i.same;
+            taken = part_left laws s r (one from end) (left end (drop (j + 1) ends)) u f both_taken;
+            free = f;
+            ordered = in_order.2;
+            inside = in_order.1;
+          }

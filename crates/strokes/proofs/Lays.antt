@@ -1,15 +1,14 @@
--- Laying events step by step lays the segments that they draw, and laying goes on behind what is laid. Assumes nothing.
+-- Laying events step by step lays the segments that they draw, and laying is a pen. Assumes nothing.
 use mathlib.Core.Path.{◌≡◌, refl, sym, ◌∙◌, ap, subst}
 use Prim.Native.Nat.{ℕ, suc, ◌+◌, ◌*◌, ◌<◌}
 use native.Mathlib.Omega.{arith}
 use native.Mathlib.Nat.{add-zero}
 use mathlib.Core.Bool.{Bool, true, false, true≢false}
-use mathlib.Core.List.{List, [], ◌∷◌, ◌++◌}
-use lib.ListN.{length, length-append}
+use mathlib.Core.List.{List, [], ◌∷◌, ◌++◌, append_assoc}
+use lib.ListN.{length, length-append, length-set}
 use lib.Ieee.{Float}
 use lib.Seq.{sets}
-use Rattle.vec2.proofs.Points.{flat_append, length-flat, sets-append}
-use Rattle.path.proofs.Encoded.{bytes_of-append, all_points-append, length-bytes}
+use Rattle.path.proofs.Encoded.{all_points-append}
 use Rattle.vec2.specs.declared.Vec2.{Vec2}
 use Rattle.vec2.specs.Points.{flat}
 use Rattle.path.specs.declared.Segment.{Segment}
@@ -19,7 +18,8 @@ use Rattle.events.specs.declared.Event.TheVariants.{Nothing, Cut, Reach, Pass}
 use Rattle.events.specs.Drawn.{down_to, drawn}
 use Rattle.events.specs.declared.Pos.{Pos}
 use Rattle.events.specs.Walk.{walk_polyline, walk_all}
-use Rattle.strokes.specs.Lay.{Out, Room, Sheet, laid, lay_verb, stroke, lay_event, lay_all}
+use Rattle.strokes.specs.Pen.{TakesAll, all_events, draws, begun_at, Laws}
+use Rattle.strokes.specs.Lay.{Out, Room, Sheet, laid, lay_verb, stroke, lay_event, lay_all, lay_begin, Lays, LaysBegin, never}
 
 -- ---- one verb after the other
 
@@ -50,18 +50,18 @@ lay_drawn s (Cut a z ∷ es) = lay_drawn (lay_event s (Cut a z)) es ∙ stroke_l
 lay_drawn s (Reach a c ∷ es) = lay_drawn (lay_event s (Reach a c)) es ∙ stroke_laid s.down s.page a c (drawn true es)
 lay_drawn s (Pass c ∷ es) = lay_drawn (lay_event s (Pass c)) es
 
--- ---- one list of segments behind another
+-- ---- the events of all polylines draw what the walk of all draws
 
-pub laid_append : (o : Out) (ss ts : List Segment) → laid (laid o ss) ts ≡ laid o (ss ++ ts)
-laid_append o ss ts =
-    let b : o.at + length ss ≡ o.at + length (bytes_of ss) = rw length-bytes in
-    let p : 2 * (o.used + length (all_points ss)) ≡ 2 * o.used + length (flat (all_points ss)) = rw length-flat (omega arith) in
-    let m : o.at + length ss + length ts ≡ o.at + length (ss ++ ts) = rw length-append (omega arith) in
-    let n : o.used + length (all_points ss) + length (all_points ts) ≡ o.used + length (all_points (ss ++ ts)) = rw (all_points-append, length-append) (omega arith) in
-    let v : sets (sets o.verbs o.at (bytes_of ss)) (o.at + length ss) (bytes_of ts) ≡ sets o.verbs o.at (bytes_of (ss ++ ts)) = rw (b, bytes_of-append, sets-append) in
-    let f : sets (sets o.floats (2 * o.used) (flat (all_points ss))) (2 * (o.used + length (all_points ss))) (flat (all_points ts)) ≡ sets o.floats (2 * o.used) (flat (all_points (ss ++ ts))) =
-    rw (p, all_points-append, flat_append, sets-append) in
-    cc
+drawn_behind : (ts : List Event) (ss : List Segment) → ((d : Bool) → drawn d ts ≡ ss) → (d : Bool) (es : List Event) → drawn d (es ++ ts) ≡ drawn d es ++ ss
+drawn_behind ts ss h d [] = h d
+drawn_behind ts ss h d (Nothing ∷ es) = drawn_behind ts ss h false es
+drawn_behind ts ss h d (Cut a z ∷ es) = ap (λ (l : List Segment). down_to d a z ++ l) (drawn_behind ts ss h false es) ∙ sym (append_assoc (down_to d a z) (drawn false es) ss)
+drawn_behind ts ss h d (Reach a c ∷ es) = ap (λ (l : List Segment). down_to d a c ++ l) (drawn_behind ts ss h true es) ∙ sym (append_assoc (down_to d a c) (drawn true es) ss)
+drawn_behind ts ss h d (Pass c ∷ es) = drawn_behind ts ss h false es
+
+pub all_drawn : (cs : List Float) (start : Pos) (ps : List (List Vec2)) (d : Bool) → drawn d (all_events cs start ps) ≡ walk_all cs start ps
+all_drawn cs start [] d = refl
+all_drawn cs start (p ∷ ps) d = drawn_behind (all_events cs start ps) (walk_all cs start ps) (all_drawn cs start ps) false (walk_polyline cs start p)
 
 -- ---- every verb that is drawn has one point
 
@@ -95,8 +95,53 @@ module _ (n m : ℕ) (o : Out) (a z : Vec2) where
   room_two false h r = (omega (arith, r.0), omega (arith, r.1))
 
 -- what is laid first has room where all has
-pub room_front : (n m : ℕ) (o : Out) (ss : List Segment) → Room n m (laid o ss) → Room n m o
+room_front : (n m : ℕ) (o : Out) (ss : List Segment) → Room n m (laid o ss) → Room n m o
 room_front n m o ss r = (omega (arith, r.0), omega (arith, r.1))
 
-pub room_start : (n m : ℕ) (s : Sheet) (es : List Event) → Room n m (lay_all s es).page → Room n m s.page
+room_start : (n m : ℕ) (s : Sheet) (es : List Event) → Room n m (lay_all s es).page → Room n m s.page
 room_start n m s es r = room_front n m s.page (drawn s.down es) (subst (Room n m) (lay_drawn s es) r)
+
+-- ---- laying is a pen
+
+-- the buffers keep their lengths
+pub record Long (o o' : Out) : Type 0 where
+  pub verbs : length o'.verbs ≡ length o.verbs
+  pub floats : length o'.floats ≡ length o.floats
+
+verb_long : (o : Out) (v : ℕ) (p : Vec2) → Long o (lay_verb o v p)
+verb_long o v p = record { verbs = length-set o.verbs _ _; floats = length-set _ _ _ ∙ length-set o.floats _ _ }
+
+stroke_long : (d : Bool) (o : Out) (a z : Vec2) → Long o (stroke d o a z)
+stroke_long true o a z = verb_long o 1 z
+stroke_long false o a z =
+    let b = verb_long (lay_verb o 0 a) 1 z in
+    let e = verb_long o 0 a in
+    record { verbs = b.verbs ∙ e.verbs; floats = b.floats ∙ e.floats }
+
+event_long : (s : Sheet) (e : Event) → Long s.page (lay_event s e).page
+event_long s Nothing = record { verbs = refl; floats = refl }
+event_long s (Cut a z) = stroke_long s.down s.page a z
+event_long s (Reach a c) = stroke_long s.down s.page a c
+event_long s (Pass c) = record { verbs = refl; floats = refl }
+
+begun_so : (s : Sheet) (a : Vec2) (e : Event) → lay_event (lay_begin s a (draws e)) e ≡ lay_event (lay_event s Nothing) (begun_at a e)
+begun_so s a Nothing = refl
+begun_so s a (Cut b z) = refl
+begun_so s a (Reach b c) = refl
+begun_so s a (Pass c) = refl
+
+-- a move and then a line have the room that both have
+begins_so : (s : Sheet) (a : Vec2) (e : Event) → Lays (lay_event s Nothing) (begun_at a e) → LaysBegin s a (draws e) × Lays (lay_begin s a (draws e)) e
+begins_so s a Nothing t = (t, t)
+begins_so s a (Cut b z) t = let l = verb_long s.page 0 a in ((omega (arith, t.0), omega (arith, t.1)), rw (l.verbs, l.floats) t)
+begins_so s a (Reach b c) t = let l = verb_long s.page 0 a in ((omega (arith, t.0), omega (arith, t.1)), rw (l.verbs, l.floats) t)
+begins_so s a (Pass c) t = (t, t)
+
+pub lay_laws : Laws lay_event lay_begin never Lays LaysBegin
+lay_laws = record { stays = λ s e h. h; lifted = λ s. refl; begun_so = begun_so; begins_so = begins_so }
+
+pub lays_all : (s : Sheet) (es : List Event) → Room (length s.page.verbs) (length s.page.floats) (lay_all s es).page → TakesAll lay_event never Lays s es
+lays_all s [] r = tt
+lays_all s (e ∷ es) r =
+    let l = event_long s e in
+    (room_start _ _ (lay_event s e) es r, λ n. lays_all (lay_event s e) es (rw (l.verbs, l.floats) r))

@@ -1,6 +1,5 @@
+pub mod Pens
 pub mod Lays
-pub mod Legs
 pub mod Counts
-pub mod Lines
 pub mod Lengths
 pub mod Positive

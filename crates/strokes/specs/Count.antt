@@ -1,10 +1,10 @@
--- What counting says of events: how many verbs they draw, without their points. A count may stop early, over a cap. Definitions only.
-use Rattle.std.specs.Prelude.{ℕ, ◌+◌, ◌≤◌, ◌<◌, ◌≡◌, Bool, true, false, cond, List, [], ◌∷◌, Float}
+-- What counting says of events: how many verbs they draw, without their points, up to a cap. Definitions only.
+use Rattle.std.specs.Prelude.{ℕ, ◌+◌, ◌^◌, ◌<◌, Bool, true, false, cond, List, ltb}
+use Rattle.vec2.specs.declared.Vec2.{Vec2}
 use Rattle.events.specs.declared.Event.{Event}
 use Rattle.events.specs.declared.Event.TheVariants.{Nothing, Cut, Reach, Pass}
 use Rattle.strokes.specs.declared.Tip.{Tip}
-use Rattle.strokes.specs.declared.Walked.{Walked}
-use Rattle.events.specs.Walk.{Told, turned}
+use Rattle.strokes.specs.Pen.{told_all}
 
 -- a line more, behind a move where the pen is up
 abbrev pub tally_stroke : Tip → Bool → Tip
@@ -25,25 +25,28 @@ tally_event k (Reach a c) = tally_rest true k
 tally_event k (Pass c) = tally_rest false k
 
 abbrev pub tally : Tip → List Event → Tip
-tally k [] = k
-tally k (e ∷ es) = tally (tally_event k e) es
+tally k es = told_all tally_event k es
 
--- the Bool says whether an interval ended where the leg begins (W6): then the pen is up, and the next one begins
-abbrev pub tally_turn : Bool → List Float → Walked → Walked
-tally_turn true cs w = record { pos = turned cs w.pos; tip = tally_cut false w.tip }
-tally_turn false cs w = w
+-- ---- as a pen
 
--- where what a leg tells leaves the walk
-abbrev pub tallied : Told → Tip → Walked
-tallied c k = record { pos = c.pos; tip = tally k c.events }
+-- what is counted, and the number over which counting stops
+pub record Count : Type 0 where
+  pub tip : Tip
+  pub cap : ℕ
 
--- r counts `all`, or stops where it is over the cap: then the whole is, too
-pub record UpTo {A : Type 0} (size : A → ℕ) (cap : ℕ) (all r : A) : Type 0 where
-  pub exact : size r ≤ cap → r ≡ all
-  pub over : cap < size r → cap < size all
+abbrev pub count_event : Count → Event → Count
+count_event k e = record { tip = tally_event k.tip e; cap = k.cap }
 
-abbrev pub laid_by : Walked → ℕ
-laid_by w = w.tip.at
+-- an interval that ended where a leg begins put the pen up; where the next one begins does not count (W6)
+abbrev pub count_begin : Count → Vec2 → Bool → Count
+count_begin k a drawing = record { tip = tally_cut false k.tip; cap = k.cap }
 
-abbrev pub itself : ℕ → ℕ
-itself n = n
+abbrev pub is_over : Count → Bool
+is_over k = ltb k.cap k.tip.at
+
+-- the next stroke's count is a number
+abbrev pub Counts : Count → Event → Type 0
+Counts k e = k.tip.at < 2 ^ 62
+
+abbrev pub CountsBegin : Count → Vec2 → Bool → Type 0
+CountsBegin k a drawing = Unit

@@ -1,5 +1,5 @@
 -- What laying writes: verb k, counted from 0, has floats 2k and 2k + 1. Definitions only.
-use Rattle.std.specs.Prelude.{ℕ, ◌+◌, ◌*◌, ◌≤◌, Bool, true, false, List, [], ◌∷◌, set, length, Float}
+use Rattle.std.specs.Prelude.{ℕ, ◌+◌, ◌*◌, ◌≤◌, Bool, true, false, List, set, length, Float}
 use Rattle.std.proofs.lemmas.List.Edits.{sets}
 use Rattle.vec2.specs.declared.Vec2.{Vec2}
 use Rattle.vec2.specs.Points.{flat}
@@ -8,6 +8,7 @@ use Rattle.path.specs.Segment.{bytes_of, all_points}
 use Rattle.events.specs.declared.Event.{Event}
 use Rattle.events.specs.declared.Event.TheVariants.{Nothing, Cut, Reach, Pass}
 use Rattle.strokes.specs.declared.Tip.{Tip}
+use Rattle.strokes.specs.Pen.{told_all}
 
 -- the verbs, the floats, and how many verbs and points are laid
 pub record Out : Type 0 where
@@ -64,11 +65,20 @@ lay_event s (Reach a c) = record { page = stroke s.down s.page a c; down = true 
 lay_event s (Pass c) = record { page = s.page; down = false }
 
 abbrev pub lay_all : Sheet → List Event → Sheet
-lay_all s [] = s
-lay_all s (e ∷ es) = lay_all (lay_event s e) es
+lay_all s es = told_all lay_event s es
 
--- the first Bool says whether an interval ended where the leg begins, at a (W6), the second whether the next one is drawn: then a move is laid
-abbrev pub lay_turn : Bool → Bool → Sheet → Vec2 → Sheet
-lay_turn false drawing s a = s
-lay_turn true false s a = record { page = s.page; down = false }
-lay_turn true true s a = record { page = lay_verb s.page 0 a; down = true }
+-- an interval begins where a leg begins, at a (W6): a drawn one by a move
+abbrev pub lay_begin : Sheet → Vec2 → Bool → Sheet
+lay_begin s a false = record { page = s.page; down = false }
+lay_begin s a true = record { page = lay_verb s.page 0 a; down = true }
+
+-- the room that each asks for
+abbrev pub Lays : Sheet → Event → Type 0
+Lays s e = Room (length s.page.verbs) (length s.page.floats) (lay_event s e).page
+
+abbrev pub LaysBegin : Sheet → Vec2 → Bool → Type 0
+LaysBegin s a drawing = Room (length s.page.verbs) (length s.page.floats) (lay_begin s a drawing).page
+
+-- laying goes on to the end
+abbrev pub never : Sheet → Bool
+never s = false

@@ -1,7 +1,6 @@
 -- Lengths of legs that are worked out once and kept for both passes. Definitions only.
 use Rattle.std.specs.Prelude.{◌≡◌, ℕ, ◌+◌, ◌*◌, ◌<◌, List, length, get_or, Float}
 use Rattle.std.specs.Float.{nan}
-use Rattle.vec2.specs.declared.Vec2.{Vec2}
 use Rattle.vec2.specs.Vec2.{◌⊖◌, len}
 use Rattle.vec2.specs.Points.{point_at}
 
@@ -12,7 +11,3 @@ length_at fs k = len (point_at fs (k + 1) ⊖ point_at fs k)
 -- ls has the lengths of the first legs, so far as there are any
 abbrev pub KeptLengths : List Float → List Float → Type 0
 KeptLengths ls fs = (k : ℕ) → k < length ls → 2 * k + 3 < length fs → get_or ls k nan ≡ length_at fs k
-
--- the length at k, where there is one, is that of this way
-abbrev pub KeptAt : List Float → ℕ → Vec2 → Type 0
-KeptAt ls k way = k < length ls → get_or ls k nan ≡ len way

@@ -1,3 +1,4 @@
+pub mod Pen
 pub mod Lay
 pub mod Count
 pub mod Lengths

@@ -1,80 +1,85 @@
 // The walk of every polyline that the scratch keeps: counted, and laid where the dash buffers take it.
 #![tactic(auto)]
 
-ghost use Rattle.std.specs.Prelude.{◌≡◌, ◌^◌, ◌<◌, length, drop};
+ghost use Rattle.std.specs.Prelude.{◌≡◌, false, ◌^◌, ◌<◌, leb, length};
 ghost use Rattle.vec2.specs.Points.{points_in};
 ghost use Rattle.float.specs.Arith.{f0};
 ghost use Rattle.pattern.specs.Cycle.{sum_from};
 ghost use Rattle.events.specs.Phase.{start_of};
 ghost use Rattle.strokes.specs.Lay.{out, laid, Room};
-ghost use Rattle.strokes.specs.Count.{UpTo, itself};
+ghost use Rattle.strokes.specs.Pen.{told_all, TakesAll, Unless, all_events};
+ghost use Rattle.polyline.specs.Polylines.{polylines};
 ghost use Rattle.strokes.specs.Lengths.{KeptLengths};
 ghost use Rattle.outline.specs.Ends.{Ordered};
 ghost use Rattle.outline.specs.Answer.{answer_of};
 ghost use Rattle.outline.specs.Dash.{walked, Cap, cut_outcome, scratch_outcome};
 
+use counting::Counting;
 use events::Pos;
+use laying::Laying;
 use outline::{Dashed, Outline};
-use path::FillRule;
+use path::{FillRule, Refusal};
+use pen::Pen;
+use strokes::Tip;
 
 // How many verbs of one point each the dash buffers take, up to the path limits.
 fn room(verbs: usize, floats: usize) -> usize
     ensures { Cap verbs floats result }
 {
-    let points = floats / 2;
-    if verbs <= points {
-        if verbs <= path::MAX_VERBS {
-            return verbs;
-        }
-        return path::MAX_VERBS;
-    }
-    if points <= path::MAX_VERBS {
-        return points;
-    }
-    path::MAX_VERBS
+    verbs.min(floats / 2).min(path::MAX_VERBS)
 }
 
-// The lengths from `from` on; none where there are no more.
-fn lengths_from<'a>(lengths: &'a [f32], from: usize) -> &'a [f32]
-    ensures { result.now ≡ drop from lengths.now }
+// Walks each polyline in turn, the phase starting anew. It stops where the pen is full.
+fn walk_all<P: Pen>(
+    points: &[f32],
+    lengths: &[f32],
+    ends: &[usize],
+    cycle: &[f32],
+    start: Pos,
+    pen: P,
+    verbs: &mut [u8],
+    floats: &mut [f32],
+) -> P
+    requires { (start.index < length cycle.now) × Ordered (length points.now) 0 ends.now × KeptLengths lengths.now points.now
+        × (P.full (P.on pen verbs.old floats.old) ≡ false)
+        × TakesAll P.told P.full P.takes (P.on pen verbs.old floats.old) (all_events cycle.now start (polylines 0 (points_in points.now) ends.now)) }
+    ensures { Unless P.full (told_all P.told (P.on pen verbs.old floats.old) (all_events cycle.now start (polylines 0 (points_in points.now) ends.now)))
+        (P.on result verbs.new floats.new) }
 {
-    if from < lengths.len() {
-        return &lengths[from..];
+    let mut pen = pen;
+    let mut from = 0usize;
+    for end in ends {
+        let end = *end;
+        let these = &points[2 * from..2 * end];
+        let kept = lengths.get(from..).unwrap_or_default();
+        pen = pen::walk_polyline(these, kept, cycle, start, pen, verbs, floats);
+        if pen.is_full() {
+            return pen;
+        }
+        from = end;
     }
-    &lengths[..0]
+    pen
 }
 
-// How many verbs the walks of all polylines lay; the count stops over the cap, so that a fine pattern on a long path is refused at once.
-fn count_all(
+// Whether the walks of all polylines lay no more verbs than the cap. Counting stops over it, so that a fine pattern on a long path is refused at once.
+fn is_within(
     points: &[f32],
     lengths: &[f32],
     ends: &[usize],
     cycle: &[f32],
     start: Pos,
     cap: usize,
-) -> usize
+) -> bool
     requires { (start.index < length cycle.now) × (cap < 2 ^ 61) × Ordered (length points.now) 0 ends.now × KeptLengths lengths.now points.now }
-    ensures { UpTo itself cap (length (walked cycle.now start (points_in points.now) ends.now)) result }
+    ensures { result ≡ leb (length (walked cycle.now start (points_in points.now) ends.now)) cap }
 {
-    let mut from = 0usize;
-    let mut k = 0usize;
-    let mut j = 0usize;
-    while j < ends.len() {
-        let e = ends[j];
-        let a = 2 * from;
-        let b = 2 * e;
-        let ls = lengths_from(lengths, from);
-        k = counting::count_polyline(&points[a..b], ls, cycle, start, k, cap);
-        if cap < k {
-            return k;
-        }
-        from = e;
-        j += 1;
-    }
-    k
+    let tip = Tip { at: 0, down: false };
+    let none = Counting { tip, cap };
+    let all = walk_all(points, lengths, ends, cycle, start, none, &mut [], &mut []);
+    !all.is_full()
 }
 
-// Walks each polyline in turn, the phase starting anew, and lays what is drawn. Answers how many verbs are laid.
+// Lays what the walks of all polylines draw. Answers how many verbs are laid.
 fn lay_all(
     points: &[f32],
     lengths: &[f32],
@@ -89,19 +94,10 @@ fn lay_all(
     ensures { out verbs.new floats.new result
         ≡ laid (out verbs.old floats.old 0) (walked cycle.now start (points_in points.now) ends.now) }
 {
-    let mut from = 0usize;
-    let mut k = 0usize;
-    let mut j = 0usize;
-    while j < ends.len() {
-        let e = ends[j];
-        let a = 2 * from;
-        let b = 2 * e;
-        let ls = lengths_from(lengths, from);
-        k = laying::lay_polyline(&points[a..b], ls, cycle, start, verbs, floats, k);
-        from = e;
-        j += 1;
-    }
-    k
+    let tip = Tip { at: 0, down: false };
+    let none = Laying { tip };
+    let all = walk_all(points, lengths, ends, cycle, start, none, verbs, floats);
+    all.tip.at
 }
 
 // Counts what the polylines give, and lays it where it fits, by the lengths of the first legs.
@@ -115,15 +111,14 @@ fn cut_by(
     rule: FillRule,
     verbs: &mut [u8],
     floats: &mut [f32],
-) -> Dashed
+) -> Result<Dashed, Refusal>
     requires { (start.index < length cycle.now) × Ordered (length points.now) 0 ends.now × KeptLengths lengths.now points.now }
     ensures { cut_outcome (answer_of result) verbs.new floats.new
         ≡ scratch_outcome cycle.now start points.now ends.now held rule verbs.old floats.old }
 {
     let cap = room(verbs.len(), floats.len());
-    let n = count_all(points, lengths, ends, cycle, start, cap);
-    if cap < n {
-        return Dashed::Refused(3);
+    if !is_within(points, lengths, ends, cycle, start, cap) {
+        return Err(Refusal::OutputFull);
     }
     let m = lay_all(points, lengths, ends, cycle, start, verbs, floats);
     let o = Outline {
@@ -134,13 +129,33 @@ fn cut_by(
         held,
         rule,
     };
-    Dashed::Cut(o)
+    Ok(Dashed::Cut(o))
 }
 
 // So many lengths are kept on a short path, and on a long one.
 const FEW_LENGTHS: usize = 256;
 
 const MANY_LENGTHS: usize = 8192;
+
+// Counts and lays, by so many kept lengths.
+fn cut_keeping<const KEPT: usize>(
+    points: &[f32],
+    ends: &[usize],
+    cycle: &[f32],
+    start: Pos,
+    held: usize,
+    rule: FillRule,
+    verbs: &mut [u8],
+    floats: &mut [f32],
+) -> Result<Dashed, Refusal>
+    requires { (KEPT < 2 ^ 61) × (start.index < length cycle.now) × Ordered (length points.now) 0 ends.now }
+    ensures { cut_outcome (answer_of result) verbs.new floats.new
+        ≡ scratch_outcome cycle.now start points.now ends.now held rule verbs.old floats.old }
+{
+    let mut kept = [0.0f32; KEPT];
+    legs::keep_lengths(points, &mut kept);
+    cut_by(points, &kept, ends, cycle, start, held, rule, verbs, floats)
+}
 
 // Counts and lays. The length of a leg takes a root, so lengths are kept from the counting to the laying: few on a short path, which then does not pay
 // for clearing many, and many on a long one. The legs behind those that are kept are measured twice.
@@ -153,19 +168,15 @@ fn cut_all(
     rule: FillRule,
     verbs: &mut [u8],
     floats: &mut [f32],
-) -> Dashed
+) -> Result<Dashed, Refusal>
     requires { (start.index < length cycle.now) × Ordered (length points.now) 0 ends.now }
     ensures { cut_outcome (answer_of result) verbs.new floats.new
         ≡ scratch_outcome cycle.now start points.now ends.now held rule verbs.old floats.old }
 {
     if points.len() <= 2 * FEW_LENGTHS {
-        let mut few = [0.0f32; FEW_LENGTHS];
-        legs::keep_lengths(points, &mut few);
-        return cut_by(points, &few, ends, cycle, start, held, rule, verbs, floats);
+        return cut_keeping::<FEW_LENGTHS>(points, ends, cycle, start, held, rule, verbs, floats);
     }
-    let mut many = [0.0f32; MANY_LENGTHS];
-    legs::keep_lengths(points, &mut many);
-    cut_by(points, &many, ends, cycle, start, held, rule, verbs, floats)
+    cut_keeping::<MANY_LENGTHS>(points, ends, cycle, start, held, rule, verbs, floats)
 }
 
 // Cuts what the scratch keeps. Where no drawn interval is above 0 nothing is drawn, and nothing is walked: a fine gap on a long path would take very many
@@ -179,7 +190,7 @@ pub fn cut_scratch(
     rule: FillRule,
     verbs: &mut [u8],
     floats: &mut [f32],
-) -> Dashed
+) -> Result<Dashed, Refusal>
     requires { (0 < length cycle.now) × Ordered (length points.now) 0 ends.now }
     ensures { cut_outcome (answer_of result) verbs.new floats.new
         ≡ scratch_outcome cycle.now (start_of cycle.now phase (sum_from f0 cycle.now)) points.now ends.now held rule verbs.old floats.old }
@@ -193,7 +204,7 @@ pub fn cut_scratch(
             held,
             rule,
         };
-        return Dashed::Cut(o);
+        return Ok(Dashed::Cut(o));
     }
     let period = pattern::sum_of(cycle);
     let start = cycle::start_of(cycle, phase, period);

@@ -4,11 +4,6 @@ use Rattle.events.specs.Zeros.{first_above}
 use Rattle.events.proofs.Turns.{above_here}
 use Rattle.cycle.proofs.next_above.Goals as goal
 
-pub returns-then-is_zero : goal.returns-then-is_zero
-returns-then-is_zero c =
-    let i = c.index_after-i.ensures.0 in
-    (c.first_above.ensures.0 ∙ ap (first_above c.args.cycle.now) i, c.first_above.ensures.1)
-
 pub returns : goal.returns
 returns c =
     let cs = c.args.cycle.now in

@@ -1,22 +1,13 @@
 -- `one_above` meets its contract. Assumes nothing.
-use mathlib.Core.Path.{refl, sym, ◌∙◌}
-use Rattle.events.proofs.Gaps.{one_on, one_found, one_none}
+use Rattle.std.proofs.Common.{rules, ◌≡◌, ℕ, ◌*◌, ◌<◌, Bool, true, false, length}
+use Rattle.std.proofs.iter.runs.Made.{chains}
+use Rattle.events.specs.Zeros.{zero_at}
+use Rattle.events.proofs.Gaps.{one_of}
 use Rattle.cycle.proofs.one_above.Goals as goal
-
-pub loop-i-init : goal.loop-i-init
-loop-i-init c = refl
-
-pub loop-i-preserved : goal.loop-i-preserved
-loop-i-preserved c =
-    let l = c.loop-i in
-    one_on c.args.cycle.now l.i c.loop-i-test.true (sym c.is_zero.ensures ∙ c.if-is_zero.true) ∙ l.invariant
-
-pub returns-else-is_zero : goal.returns-else-is_zero
-returns-else-is_zero c =
-    let l = c.loop-i in
-    one_found c.args.cycle.now l.i c.loop-i-test.true (sym c.is_zero.ensures ∙ c.if-is_zero.false) ∙ l.invariant
 
 pub returns : goal.returns
 returns c =
-    let l = c.loop-i in
-    one_none c.args.cycle.now l.i c.loop-i-test.false ∙ l.invariant
+    let cs = c.args.intervals.now in
+    let found : c.any.result ≡ true → (k : ℕ) × (k * 2 < length cs) × (zero_at cs (k * 2) ≡ false) = search (rules, chains) in
+    let none : c.any.result ≡ false → (k : ℕ) → k * 2 < length cs → zero_at cs (k * 2) ≡ true = search (rules, chains) in
+    one_of c.any.result cs found none

@@ -2,19 +2,12 @@
 use mathlib.Core.Path.{sym, subst}
 use lib.Dec.{T}
 use lib.Ieee.{binary32, fits}
-use Rattle.float.proofs.Count.{above_of_test, none_of_test, no_nan}
+use Rattle.float.proofs.Count.{above_of_test, none_of_test}
 use Rattle.strokes.proofs.Positive.{above_walks, none_walks}
-use Rattle.legs.proofs.is_walked.Goals.{Start}
 use Rattle.legs.proofs.is_walked.Goals as goal
 
-fits_by : (c : Start) → T (fits binary32 c.args.length)
-fits_by c = subst T (sym c.well_formed.0.1) tt
-
-pub float_to_bits-result : goal.float_to_bits-result
-float_to_bits-result c = no_nan c.args.length (above_of_test c.args.length c.if-length.true)
-
 pub returns-then-length : goal.returns-then-length
-returns-then-length c = above_walks c.args.length (fits_by c.before) (above_of_test c.args.length c.if-length.true)
+returns-then-length c = above_walks c.args.length (subst T (sym c.before.well_formed.0.1) tt) (above_of_test c.args.length c.if-length.true)
 
 pub returns : goal.returns
 returns c = none_walks c.args.length (none_of_test c.args.length c.if-length.false)

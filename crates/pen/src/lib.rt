@@ -1,0 +1,178 @@
+// The walk of a polyline by a dash cycle, for any pen.
+#![tactic(auto)]
+
+ghost use Rattle.std.specs.Prelude.{◌≡◌, ℕ, Bool, true, false, cond, ◌<◌, List, ◌∷◌, length, Float};
+ghost use Rattle.float.specs.Arith.{f0};
+ghost use Rattle.vec2.specs.declared.Vec2.{Vec2};
+ghost use Rattle.vec2.specs.Points.{points_in};
+ghost use Rattle.events.specs.declared.Event.{Event};
+ghost use Rattle.events.specs.declared.Event.TheVariants.{Nothing};
+ghost use Rattle.events.specs.Walk.{nothing_left, turned, place, cut_from, passed, is_walked, inside, resting, walk_polyline};
+ghost use Rattle.strokes.specs.Lengths.{KeptLengths};
+ghost use Rattle.strokes.specs.Pen.{told_all, TakesAll, Unless, Led, Laws};
+
+use events::{Leg, Pos};
+use vec2::Vec2;
+
+// What a walk goes by: it counts what the walk's events draw, or lays it into the two dash buffers; one that counts is lent empty ones. It is handed on by
+// value, so that it stays in registers.
+pub trait Pen: Copy {
+    // what definitions see of a pen and its buffers
+    ghost State: { Type 0 };
+
+    ghost on: { Self → List ℕ → List Float → State };
+
+    // what an event does to it, and where an interval ended where a leg begins, at a point, what beginning the next one does
+    ghost told: { State → Event → State };
+
+    ghost begun: { State → Vec2 → Bool → State };
+
+    // more is told than there is room for: the walk stops
+    ghost full: { State → Bool };
+
+    // the room that it asks for
+    ghost takes: { State → Event → Type 0 };
+
+    ghost begins: { State → Vec2 → Bool → Type 0 };
+
+    // An interval ends inside the leg, at t.
+    fn cut(self, g: Leg, p: Pos, t: f32, verbs: &mut [u8], floats: &mut [f32]) -> Self
+        requires { takes (on self verbs.old floats.old) (inside g p t) }
+        ensures { on result verbs.new floats.new ≡ told (on self verbs.old floats.old) (inside g p t) };
+
+    // The rest of the leg, from t on, lies inside the interval.
+    fn rest(self, g: Leg, p: Pos, t: f32, verbs: &mut [u8], floats: &mut [f32]) -> Self
+        requires { takes (on self verbs.old floats.old) (resting g p t) }
+        ensures { on result verbs.new floats.new ≡ told (on self verbs.old floats.old) (resting g p t) };
+
+    // An interval ended where a leg begins, at a, and the next one begins.
+    fn begin(self, a: Vec2, drawing: bool, verbs: &mut [u8], floats: &mut [f32]) -> Self
+        requires { begins (on self verbs.old floats.old) a drawing }
+        ensures { on result verbs.new floats.new ≡ begun (on self verbs.old floats.old) a drawing };
+
+    // Nothing is drawn, and the pen is up.
+    fn lift(self) -> Self
+        ensures { (vs : List ℕ) (fs : List Float) → on result vs fs ≡ told (on self vs fs) Nothing };
+
+    fn is_full(self) -> bool
+        ensures { (vs : List ℕ) (fs : List Float) → result ≡ full (on self vs fs) };
+
+    ghost laws: { Laws told begun full takes begins };
+}
+
+// Where a walk is: in the cycle, and what its pen has done.
+#[derive(Clone, Copy)]
+pub struct Walked<P> {
+    pub pos: Pos,
+    pub pen: P,
+}
+
+// The walk of a leg. It stops where the pen is full.
+fn walk_leg<P: Pen>(
+    cycle: &[f32],
+    g: Leg,
+    w: Walked<P>,
+    verbs: &mut [u8],
+    floats: &mut [f32],
+) -> Walked<P>
+    requires { (w.pos.index < length cycle.now)
+        × TakesAll P.told P.full P.takes (P.on w.pen verbs.old floats.old) (cut_from cycle.now g (place w.pos f0)).events }
+    ensures { Led P.told P.full (length cycle.now) (P.on w.pen verbs.old floats.old) (cut_from cycle.now g (place w.pos f0))
+        (P.on result.pen verbs.new floats.new) result.pos }
+{
+    let mut p = w.pos;
+    let mut pen = w.pen;
+    let mut t = 0.0f32;
+    while g.length - t > p.left {
+        let next = t + p.left;
+        if next <= t {
+            break;
+        }
+        pen = pen.cut(g, p, next, verbs, floats);
+        if pen.is_full() {
+            return Walked { pos: p, pen };
+        }
+        p = cycle::next_interval(cycle, p);
+        t = next;
+    }
+    let pen = pen.rest(g, p, t, verbs, floats);
+    let pos = legs::rested_at(g, p, t);
+    Walked { pos, pen }
+}
+
+// Where exactly nothing is left of the interval it ended where the leg begins, at a: the pen is up, and the next one begins. Otherwise the answer is made anew
+// from its fields: a copy of the whole struct would go through memory, at every leg.
+fn turn<P: Pen>(
+    cycle: &[f32],
+    a: Vec2,
+    w: Walked<P>,
+    verbs: &mut [u8],
+    floats: &mut [f32],
+) -> Walked<P>
+    requires { (w.pos.index < length cycle.now)
+        × (nothing_left w.pos ≡ true → P.begins (P.on w.pen verbs.old floats.old) a (turned cycle.now w.pos).drawing) }
+    ensures turned { (result.pos ≡ cond (nothing_left w.pos) (turned cycle.now w.pos) w.pos) × (result.pos.index < length cycle.now) }
+    ensures begun { P.on result.pen verbs.new floats.new
+        ≡ cond (nothing_left w.pos) (P.begun (P.on w.pen verbs.old floats.old) a (turned cycle.now w.pos).drawing) (P.on w.pen verbs.old floats.old) }
+{
+    let p = w.pos;
+    if cycle::nothing_left(p) {
+        let pos = cycle::next_interval(cycle, p);
+        let pen = w.pen.begin(a, pos.drawing, verbs, floats);
+        return Walked { pos, pen };
+    }
+    let pos = Pos {
+        index: p.index,
+        left: p.left,
+        drawing: p.drawing,
+    };
+    Walked { pos, pen: w.pen }
+}
+
+// Walks a leg, or passes over one that is not walked: the pen stays as it is.
+fn pass_leg<P: Pen>(
+    cycle: &[f32],
+    g: Leg,
+    w: Walked<P>,
+    verbs: &mut [u8],
+    floats: &mut [f32],
+) -> Walked<P>
+    requires { (w.pos.index < length cycle.now) × (P.full (P.on w.pen verbs.old floats.old) ≡ false)
+        × TakesAll P.told P.full P.takes (P.on w.pen verbs.old floats.old) (passed (is_walked g) cycle.now g w.pos).events }
+    ensures { Led P.told P.full (length cycle.now) (P.on w.pen verbs.old floats.old) (passed (is_walked g) cycle.now g w.pos)
+        (P.on result.pen verbs.new floats.new) result.pos }
+{
+    if legs::is_walked(g.length) {
+        let v = turn(cycle, g.from, w, verbs, floats);
+        return walk_leg(cycle, g, v, verbs, floats);
+    }
+    w
+}
+
+// Walks a polyline, with the pen up at first. It stops where the pen is full.
+pub fn walk_polyline<P: Pen>(
+    points: &[f32],
+    lengths: &[f32],
+    cycle: &[f32],
+    start: Pos,
+    pen: P,
+    verbs: &mut [u8],
+    floats: &mut [f32],
+) -> P
+    requires { (start.index < length cycle.now) × KeptLengths lengths.now points.now × (P.full (P.on pen verbs.old floats.old) ≡ false)
+        × TakesAll P.told P.full P.takes (P.on pen verbs.old floats.old) (Nothing ∷ walk_polyline cycle.now start (points_in points.now)) }
+    ensures { Unless P.full (told_all P.told (P.on pen verbs.old floats.old) (Nothing ∷ walk_polyline cycle.now start (points_in points.now)))
+        (P.on result verbs.new floats.new) }
+{
+    let mut w = Walked {
+        pos: start,
+        pen: pen.lift(),
+    };
+    for k in 1..points.len() / 2 {
+        w = pass_leg(cycle, legs::leg_to(points, lengths, k), w, verbs, floats);
+        if w.pen.is_full() {
+            return w.pen;
+        }
+    }
+    w.pen
+}

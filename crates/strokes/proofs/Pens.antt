@@ -1,0 +1,373 @@
+-- The walk by any pen: what a leg's loop keeps, its turns, an interval that ended where the leg begins, and one leg behind another. Assumes nothing.
+use mathlib.Core.Path.{◌≡◌, refl, sym, ◌∙◌, ap, subst}
+use Prim.Native.Nat.{ℕ, ◌+◌, ◌-◌, ◌/◌, ◌≤◌, ◌<◌}
+use native.Mathlib.Omega.{arith}
+use mathlib.Core.Bool.{Bool, true, false, cond, true≢false}
+use mathlib.Core.List.{List, [], ◌∷◌, ◌++◌}
+use lib.ListN.{length, drop, drop_of_length-le}
+use lib.Dec.{T}
+use lib.Ieee.{Float, nan, binary32, fits}
+use lib.Ieee.Fits.{add-fits}
+use lib.Ieee.Bits.{of_bits-fits}
+use Rattle.float.specs.Arith.{plus, f0}
+use Rattle.vec2.specs.declared.Vec2.{Vec2}
+use Rattle.vec2.specs.Vec2.{vec}
+use Rattle.vec2.specs.Points.{points_in, point_at}
+use Rattle.vec2.proofs.Points.{length-points_in, points_in-at}
+use Rattle.vec2.proofs.Lists.{drop-next}
+use Rattle.events.specs.declared.Pos.{Pos}
+use Rattle.events.specs.declared.Leg.{Leg}
+use Rattle.events.specs.declared.Event.{Event}
+use Rattle.events.specs.declared.Event.TheVariants.{Nothing, Cut, Reach, Pass}
+use Rattle.events.specs.Walk.{inside, resting, rested, goes, onward, tells, Place, place, Told, nothing_left, cut_from, turned, beginning_at, cut_leg, passed, is_walked, leg_of, walk_from, walk_polyline}
+use Rattle.strokes.specs.Pen.{told_all, TakesAll, Unless, Led, draws, begun_at, Laws}
+use Rattle.events.proofs.Turns.{cut_stop, cut_step}
+
+-- ---- a leg's first event
+
+-- what a leg tells begins with an event, which draws where the interval is drawn
+pub record Head (d : Bool) (es : List Event) : Type 0 where
+  pub first : Event
+  pub rest : List Event
+  pub is : es ≡ first ∷ rest
+  pub drawn : d ≡ draws first
+
+inside_draws : (g : Leg) (p : Pos) (t : Float) → p.drawing ≡ draws (inside g p t)
+inside_draws g p t = go p.drawing
+  where
+    go : (d : Bool) → d ≡ draws (inside g (record { index = p.index; left = p.left; drawing = d }) t)
+    go true = refl
+    go false = refl
+
+resting_draws : (g : Leg) (p : Pos) (t : Float) → p.drawing ≡ draws (resting g p t)
+resting_draws g p t = go p.drawing
+  where
+    go : (d : Bool) → d ≡ draws (resting g (record { index = p.index; left = p.left; drawing = d }) t)
+    go true = refl
+    go false = refl
+
+head : (cs : List Float) (g : Leg) (q : Place) → T (fits binary32 q.t) → Head q.pos.drawing (cut_from cs g q).events
+head cs g q f = go (goes cs g q) refl
+  where
+    go : (b : Bool) → goes cs g q ≡ b → Head q.pos.drawing (cut_from cs g q).events
+    go true e =
+        record {
+          first = tells cs g q;
+          rest = (cut_from cs g (onward cs g q)).events;
+          is = ap (λ (c : Told). c.events) (cut_step cs g q f e);
+          drawn = inside_draws g q.pos (plus q.t q.pos.left);
+        }
+    go false e = record { first = resting g q.pos q.t; rest = []; is = ap (λ (c : Told). c.events) (cut_stop cs g q e); drawn = resting_draws g q.pos q.t }
+
+begins_with : (a : Vec2) (e : Event) (es : List Event) → beginning_at a (e ∷ es) ≡ begun_at a e ∷ es
+begins_with a Nothing es = refl
+begins_with a (Cut b z) es = refl
+begins_with a (Reach b c) es = refl
+begins_with a (Pass c) es = refl
+
+-- ---- a leg that is walked, or passed over
+
+pub did : (b : Bool) (cs : List Float) (g : Leg) (p : Pos) → b ≡ true → cut_leg (nothing_left p) cs g p ≡ passed b cs g p
+did true cs g p h = refl
+did false cs g p h = absurd (true≢false (sym h))
+
+pub did_not : (b : Bool) (cs : List Float) (g : Leg) (p : Pos) → b ≡ false → record { events = []; pos = p } ≡ passed b cs g p
+did_not true cs g p h = absurd (true≢false h)
+did_not false cs g p h = refl
+
+-- ---- a pen that is full, or not
+
+pub full_is : {S : Type 0} {full : S → Bool} {all r : S} → Unless full all r → full r ≡ full all
+full_is {full = full} {all = all} {r = r} u = go (full r) refl
+  where
+    go : (b : Bool) → full r ≡ b → b ≡ full all
+    go true e = sym (u.over e)
+    go false e = sym e ∙ ap full (u.exact e)
+
+-- ---- what the loops keep
+
+-- the legs from the one that leads to point k on
+abbrev pub legs_on : List Float → List Float → ℕ → Pos → List Event
+legs_on cs fs k p = walk_from cs (point_at fs (k - 1)) (drop k (points_in fs)) p
+
+module _ {S : Type 0} (told : S → Event → S) (full : S → Bool) (takes : S → Event → Type 0) (cs : List Float) where
+  -- what is left to tell from q on, to the pen as it is, ends as what there was to tell from q₀ on, to the pen as it was
+  pub record Going (g : Leg) (s₀ : S) (q₀ : Place) (s : S) (q : Place) : Type 0 where
+    pub walked : (cut_from cs g q).pos ≡ (cut_from cs g q₀).pos
+    pub same : told_all told s (cut_from cs g q).events ≡ told_all told s₀ (cut_from cs g q₀).events
+    pub fit : T (fits binary32 q.t)
+    pub indexed : q.pos.index < length cs
+    pub taken : TakesAll told full takes s (cut_from cs g q).events
+
+  -- the same of a polyline, where the next leg leads to point k
+  pub record Line (fs : List Float) (start : Pos) (s₀ : S) (k : ℕ) (s : S) (p : Pos) : Type 0 where
+    pub same : told_all told s (legs_on cs fs k p) ≡ told_all told s₀ (walk_polyline cs start (points_in fs))
+    pub taken : TakesAll told full takes s (legs_on cs fs k p)
+    pub free : full s ≡ false
+    pub indexed : p.index < length cs
+
+module _ {S : Type 0} {told : S → Event → S} {begun : S → Vec2 → Bool → S} {full : S → Bool} {takes : S → Event → Type 0} {begins : S → Vec2 → Bool → Type 0}
+    (laws : Laws told begun full takes begins) where
+  told_append : (s : S) (es fs : List Event) → told_all told s (es ++ fs) ≡ told_all told (told_all told s es) fs
+  told_append s [] fs = refl
+  told_append s (e ∷ es) fs = told_append (told s e) es fs
+
+  -- a pen that is full stays so, and one that is not full at the end is not full before
+  full_all : (s : S) (es : List Event) → full s ≡ true → full (told_all told s es) ≡ true
+  full_all s [] h = h
+  full_all s (e ∷ es) h = full_all (told s e) es (laws.stays s e h)
+
+  not_before : (s : S) (es : List Event) → full (told_all told s es) ≡ false → full s ≡ false
+  not_before s es h = go (full s) refl
+    where
+      go : (b : Bool) → full s ≡ b → b ≡ false
+      go true e = absurd (true≢false (sym (full_all s es e) ∙ h))
+      go false e = refl
+
+  pub takes_first : (s : S) (es fs : List Event) → TakesAll told full takes s (es ++ fs) → TakesAll told full takes s es
+  takes_first s [] fs t = tt
+  takes_first s (e ∷ es) fs t = (t.0, λ n. takes_first (told s e) es fs (t.1 n))
+
+  takes_rest : (s : S) (es fs : List Event) → TakesAll told full takes s (es ++ fs) → full (told_all told s es) ≡ false → TakesAll told full takes (told_all told s es) fs
+  takes_rest s [] fs t h = t
+  takes_rest s (e ∷ es) fs t h = takes_rest (told s e) es fs (t.1 (not_before (told s e) es h)) h
+
+  -- a pen that went through to the end
+  pub through : {all r : S} → r ≡ all → Unless full all r
+  through e = record { exact = λ n. e; over = λ n. subst (λ (z : S). full z ≡ true) e n }
+
+  -- one part, and what is told behind it
+  module _ (s r : S) (es fs : List Event) (u : Unless full (told_all told s es) r) where
+    pub part_over : full r ≡ true → full (told_all told s (es ++ fs)) ≡ true
+    part_over f = subst (λ (z : S). full z ≡ true) (sym (told_append s es fs)) (full_all (told_all told s es) fs (u.over f))
+
+    pub part_on : full r ≡ false → told_all told r fs ≡ told_all told s (es ++ fs)
+    part_on f = ap (λ (z : S). told_all told z fs) (u.exact f) ∙ sym (told_append s es fs)
+
+    pub part_left : full r ≡ false → TakesAll told full takes s (es ++ fs) → TakesAll told full takes r fs
+    part_left f t =
+        let e = u.exact f in
+        subst (λ (z : S). TakesAll told full takes z fs) (sym e) (takes_rest s es fs t (subst (λ (z : S). full z ≡ false) e f))
+
+  -- ---- a leg's loop
+
+  module _ {cs : List Float} {g : Leg} {s₀ : S} {q₀ : Place} (s : S) (q : Place) (i : Going told full takes cs g s₀ q₀ s q) where
+    stepped : (c : Told) → cut_from cs g q ≡ c → TakesAll told full takes s c.events
+    stepped c e = subst (λ (z : Told). TakesAll told full takes s z.events) e i.taken
+
+    module _ (h : goes cs g q ≡ true) where
+      pub cut_taken : takes s (tells cs g q)
+      cut_taken = (stepped _ (cut_step cs g q i.fit h)).0
+
+      onward_same : (s' : S) → s' ≡ told s (tells cs g q) → told_all told s' (cut_from cs g (onward cs g q)).events ≡ told_all told s₀ (cut_from cs g q₀).events
+      onward_same s' es = ap (λ (z : S). told_all told z (cut_from cs g (onward cs g q)).events) es ∙ sym (ap (λ (c : Told). told_all told s c.events) (cut_step cs g q i.fit h)) ∙ i.same
+
+      -- the pen is full inside the leg
+      pub filled : (s' : S) → s' ≡ told s (tells cs g q) → full s' ≡ true → (p : Pos) → p.index < length cs → Led told full (length cs) s₀ (cut_from cs g q₀) s' p
+      filled s' es f p ip =
+          record {
+            led =
+                record {
+                  exact = λ n. absurd (true≢false (sym f ∙ n));
+                  over = λ n. subst (λ (z : S). full z ≡ true) (onward_same s' es) (full_all s' (cut_from cs g (onward cs g q)).events f);
+                };
+            walked = λ n. absurd (true≢false (sym f ∙ n));
+            indexed = ip;
+          }
+
+      pub going_on : (s' : S) → s' ≡ told s (tells cs g q) → full s' ≡ false → (p' : Pos) → p' ≡ turned cs q.pos → p'.index < length cs →
+          Going told full takes cs g s₀ q₀ s' (place p' (plus q.t q.pos.left))
+      going_on s' es f p' ep ip =
+          let t' = plus q.t q.pos.left in
+          let e : place p' t' ≡ onward cs g q = ap (λ (p : Pos). place p t') ep in
+          let rest = (stepped _ (cut_step cs g q i.fit h)).1 (subst (λ (z : S). full z ≡ false) es f) in
+          record {
+            walked = ap (λ (z : Place). (cut_from cs g z).pos) e ∙ sym (ap (λ (c : Told). c.pos) (cut_step cs g q i.fit h)) ∙ i.walked;
+            same = ap (λ (z : Place). told_all told s' (cut_from cs g z).events) e ∙ onward_same s' es;
+            fit = add-fits binary32 q.t q.pos.left;
+            indexed = ip;
+            taken =
+                subst (λ (z : Place). TakesAll told full takes s' (cut_from cs g z).events) (sym e)
+                (subst (λ (z : S). TakesAll told full takes z (cut_from cs g (onward cs g q)).events) (sym es) rest);
+          }
+
+    module _ (h : goes cs g q ≡ false) where
+      pub rest_taken : takes s (resting g q.pos q.t)
+      rest_taken = (stepped _ (cut_stop cs g q h)).0
+
+      pub gone : (s' : S) → s' ≡ told s (resting g q.pos q.t) → (p' : Pos) → p' ≡ rested g q.pos q.t → Led told full (length cs) s₀ (cut_from cs g q₀) s' p'
+      gone s' es p' ep =
+          let stop = cut_stop cs g q h in
+          record {
+            led = through (es ∙ sym (ap (λ (c : Told). told_all told s c.events) stop) ∙ i.same);
+            walked = λ n. ep ∙ sym (ap (λ (c : Told). c.pos) stop) ∙ i.walked;
+            indexed = subst (λ (p : Pos). p.index < length cs) (sym ep) i.indexed;
+          }
+
+  -- ---- an interval that ended where the leg begins
+
+  module _ (cs : List Float) (g : Leg) (p : Pos) (s : S) where
+    abbrev next : Place
+    next = place (turned cs p) f0
+
+    abbrev first : S
+    first = begun s g.from (turned cs p).drawing
+
+    module _ (h : Head (turned cs p).drawing (cut_from cs g next).events) where
+      all_is : beginning_at g.from (cut_from cs g next).events ≡ begun_at g.from h.first ∷ h.rest
+      all_is = ap (beginning_at g.from) h.is ∙ begins_with g.from h.first h.rest
+
+      begun_is : told first h.first ≡ told (told s Nothing) (begun_at g.from h.first)
+      begun_is = ap (λ (d : Bool). told (begun s g.from d) h.first) h.drawn ∙ laws.begun_so s g.from h.first
+
+      same_as : told_all told first (cut_from cs g next).events ≡ told_all told s (cut_leg true cs g p).events
+      same_as =
+          ap (told_all told first) h.is
+          ∙ ap (λ (z : S). told_all told z h.rest) begun_is
+          ∙ sym (ap (told_all told (told s Nothing)) all_is)
+
+      module _ (free : full s ≡ false) (t : TakesAll told full takes s (cut_leg true cs g p).events) where
+        left : TakesAll told full takes (told s Nothing) (begun_at g.from h.first ∷ h.rest)
+        left = subst (TakesAll told full takes (told s Nothing)) all_is (t.1 (laws.lifted s ∙ free))
+
+        pair : begins s g.from (turned cs p).drawing × takes first h.first
+        pair = subst (λ (d : Bool). begins s g.from d × takes (begun s g.from d) h.first) (sym h.drawn) (laws.begins_so s g.from h.first left.0)
+
+        taken_as : TakesAll told full takes first (cut_from cs g next).events
+        taken_as = subst (TakesAll told full takes first) (sym h.is) (pair.1, λ n. subst (λ (z : S). TakesAll told full takes z h.rest) (sym begun_is) (left.1 (subst (λ (z : S). full z ≡ false) begun_is n)))
+
+    begun_head : Head (turned cs p).drawing (cut_from cs g next).events
+    begun_head = head cs g next (of_bits-fits binary32 0)
+
+    module _ (free : full s ≡ false) where
+      pub turn_begins : (b : Bool) → TakesAll told full takes s (cut_leg b cs g p).events → b ≡ true → begins s g.from (turned cs p).drawing
+      turn_begins true t h = (pair begun_head free t).0
+      turn_begins false t h = absurd (true≢false (sym h))
+
+      taken_by : (b : Bool) → TakesAll told full takes s (cut_leg b cs g p).events → TakesAll told full takes (cond b first s) (cut_from cs g (place (cond b (turned cs p) p) f0)).events
+      taken_by true t = taken_as begun_head free t
+      taken_by false t = t
+
+      -- from where the code has turned
+      pub turn_taken : (b : Bool) → TakesAll told full takes s (cut_leg b cs g p).events → (s' : S) → s' ≡ cond b first s → (p' : Pos) → p' ≡ cond b (turned cs p) p →
+          TakesAll told full takes s' (cut_from cs g (place p' f0)).events
+      turn_taken b t s' es p' ep =
+          subst (λ (z : S). TakesAll told full takes z (cut_from cs g (place p' f0)).events) (sym es)
+          (subst (λ (z : Pos). TakesAll told full takes (cond b first s) (cut_from cs g (place z f0)).events) (sym ep) (taken_by b t))
+
+    same_by : (b : Bool) → told_all told (cond b first s) (cut_from cs g (place (cond b (turned cs p) p) f0)).events ≡ told_all told s (cut_leg b cs g p).events
+    same_by true = same_as begun_head
+    same_by false = refl
+
+    goes_by : (b : Bool) → (cut_from cs g (place (cond b (turned cs p) p) f0)).pos ≡ (cut_leg b cs g p).pos
+    goes_by true = refl
+    goes_by false = refl
+
+    pub turn_led : (b : Bool) (s' : S) → s' ≡ cond b first s → (p' : Pos) → p' ≡ cond b (turned cs p) p → (r : S) (q : Pos) →
+        Led told full (length cs) s' (cut_from cs g (place p' f0)) r q → Led told full (length cs) s (cut_leg b cs g p) r q
+    turn_led b s' es p' ep r q l =
+        let e =
+        ap (λ (z : S). told_all told z (cut_from cs g (place p' f0)).events) es
+        ∙ ap (λ (z : Pos). told_all told (cond b first s) (cut_from cs g (place z f0)).events) ep
+        ∙ same_by b in
+        record {
+          led = subst (λ (z : S). Unless full z r) e l.led;
+          walked = λ n. l.walked n ∙ ap (λ (z : Pos). (cut_from cs g (place z f0)).pos) ep ∙ goes_by b;
+          indexed = l.indexed;
+        }
+
+  -- a leg that is passed over
+  pub passed_over : (n : ℕ) (s : S) (p : Pos) → p.index < n → Led told full n s (record { events = []; pos = p }) s p
+  passed_over n s p h = record { led = through refl; walked = λ m. refl; indexed = h }
+
+  -- ---- a polyline
+
+  module _ (cs : List Float) where
+    -- one leg
+    module _ (a b : Vec2) (ps : List Vec2) (s : S) (p : Pos) where
+      abbrev c : Told
+      c = passed (is_walked (leg_of a b)) cs (leg_of a b) p
+
+      leg_is : walk_from cs a (b ∷ ps) p ≡ c.events ++ walk_from cs b ps c.pos
+      unfolding walk_from
+      leg_is = refl
+
+      leg_taken : TakesAll told full takes s (walk_from cs a (b ∷ ps) p) → TakesAll told full takes s c.events
+      leg_taken t = takes_first s c.events (walk_from cs b ps c.pos) (subst (TakesAll told full takes s) leg_is t)
+
+      module _ (r : S) (q : Pos) (l : Led told full (length cs) s c r q) where
+        leg_over : full r ≡ true → full (told_all told s (walk_from cs a (b ∷ ps) p)) ≡ true
+        leg_over f = subst (λ (es : List Event). full (told_all told s es) ≡ true) (sym leg_is) (part_over s r c.events (walk_from cs b ps c.pos) l.led f)
+
+        module _ (f : full r ≡ false) where
+          leg_on : told_all told r (walk_from cs b ps q) ≡ told_all told s (walk_from cs a (b ∷ ps) p)
+          leg_on =
+              ap (λ (z : Pos). told_all told r (walk_from cs b ps z)) (l.walked f)
+              ∙ part_on s r c.events (walk_from cs b ps c.pos) l.led f
+              ∙ sym (ap (told_all told s) leg_is)
+
+          leg_left : TakesAll told full takes s (walk_from cs a (b ∷ ps) p) → TakesAll told full takes r (walk_from cs b ps q)
+          leg_left t =
+              subst (λ (z : Pos). TakesAll told full takes r (walk_from cs b ps z)) (sym (l.walked f))
+              (part_left s r c.events (walk_from cs b ps c.pos) l.led f (subst (TakesAll told full takes s) leg_is t))
+
+    module _ (fs : List Float) where
+      walk_nil : (a : Vec2) (p : Pos) → walk_from cs a [] p ≡ []
+      unfolding walk_from
+      walk_nil a p = refl
+
+      start_is : (l : List Float) (p : Pos) → walk_from cs (point_at l (1 - 1)) (drop 1 (points_in l)) p ≡ walk_polyline cs p (points_in l)
+      start_is [] p = walk_nil _ p
+      start_is (x ∷ []) p = walk_nil _ p
+      start_is (x ∷ y ∷ l) p = refl
+
+      pub line_start : (start : Pos) (s : S) → TakesAll told full takes s (walk_polyline cs start (points_in fs)) → full s ≡ false → start.index < length cs → Line told full takes cs fs start s 1 s start
+      line_start start s t f h =
+          record {
+            same = ap (told_all told s) (start_is fs start);
+            taken = subst (TakesAll told full takes s) (sym (start_is fs start)) t;
+            free = f;
+            indexed = h;
+          }
+
+      module _ {start : Pos} {s₀ : S} (k : ℕ) (s : S) (p : Pos) (i : Line told full takes cs fs start s₀ k s p) where
+        module _ (h : k < length fs / 2) where
+          next_is : legs_on cs fs k p ≡ walk_from cs (point_at fs (k - 1)) (point_at fs k ∷ drop (k + 1) (points_in fs)) p
+          next_is =
+              ap (λ (l : List Vec2). walk_from cs (point_at fs (k - 1)) l p)
+              (drop-next (points_in fs) k (vec nan nan) (omega (arith, length-points_in fs)) ∙ ap (λ (z : Vec2). z ∷ drop (k + 1) (points_in fs)) (points_in-at fs k (omega arith)))
+
+          back_is : (q : Pos) → legs_on cs fs (k + 1) q ≡ walk_from cs (point_at fs k) (drop (k + 1) (points_in fs)) q
+          back_is q = let e : k + 1 - 1 ≡ k = omega arith in ap (λ (j : ℕ). walk_from cs (point_at fs j) (drop (k + 1) (points_in fs)) q) e
+
+          taken_on : TakesAll told full takes s (walk_from cs (point_at fs (k - 1)) (point_at fs k ∷ drop (k + 1) (points_in fs)) p)
+          taken_on = subst (TakesAll told full takes s) next_is i.taken
+
+          module _ (g : Leg) (e : g ≡ leg_of (point_at fs (k - 1)) (point_at fs k)) where
+            pub line_taken : TakesAll told full takes s (passed (is_walked g) cs g p).events
+            line_taken = subst (λ (z : Leg). TakesAll told full takes s (passed (is_walked z) cs z p).events) (sym e) (leg_taken _ _ _ s p taken_on)
+
+            module _ (r : S) (q : Pos) (l : Led told full (length cs) s (passed (is_walked g) cs g p) r q) where
+              led : Led told full (length cs) s (passed (is_walked (leg_of (point_at fs (k - 1)) (point_at fs k))) cs (leg_of (point_at fs (k - 1)) (point_at fs k)) p) r q
+              led = subst (λ (z : Leg). Led told full (length cs) s (passed (is_walked z) cs z p) r q) e l
+
+              pub line_over : full r ≡ true → Unless full (told_all told s₀ (walk_polyline cs start (points_in fs))) r
+              line_over f =
+                  record {
+                    exact = λ n. absurd (true≢false (sym f ∙ n));
+                    over = λ n. subst (λ (z : S). full z ≡ true) (sym (ap (told_all told s) next_is) ∙ i.same) (leg_over _ _ _ s p r q led f);
+                  }
+
+              pub line_on : full r ≡ false → Line told full takes cs fs start s₀ (k + 1) r q
+              line_on f =
+                  record {
+                    same = ap (told_all told r) (back_is q) ∙ leg_on _ _ _ s p r q led f ∙ sym (ap (told_all told s) next_is) ∙ i.same;
+                    taken = subst (TakesAll told full takes r) (sym (back_is q)) (leg_left _ _ _ s p r q led f taken_on);
+                    free = f;
+                    indexed = l.indexed;
+                  }
+
+        pub line_end : length fs / 2 ≤ k → Unless full (told_all told s₀ (walk_polyline cs start (points_in fs))) s
+        line_end h =
+            let none : drop k (points_in fs) ≡ [] = drop_of_length-le (points_in fs) (omega (arith, length-points_in fs)) in
+            through (sym (ap (told_all told s) (ap (λ (l : List Vec2). walk_from cs (point_at fs (k - 1)) l p) none ∙ walk_nil _ p)) ∙ i.same)

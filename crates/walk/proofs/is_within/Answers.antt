@@ -1,0 +1,27 @@
+-- `is_within` meets its contract. Assumes nothing.
+use mathlib.Core.Path.{◌∙◌, ap}
+use mathlib.Core.Bool.{not, false}
+use native.Mathlib.Nat.{zero-add}
+use Prim.Native.Nat.{ℕ}
+use lib.Dec.{leb}
+use lib.ListN.{length}
+use native.Mathlib.Omega.{arith}
+use Rattle.polyline.specs.Polylines.{polylines}
+use Rattle.vec2.specs.Points.{points_in}
+use mathlib.Core.List.{[]}
+use borrow.Author.Tests.{le-ltb}
+use Rattle.strokes.specs.Pen.{all_events}
+use Rattle.strokes.proofs.Counts.{counts_all, count_fits}
+use Rattle.strokes.proofs.Lays.{all_drawn}
+use Rattle.walk.proofs.is_within.Goals as goal
+
+pub walk_all-all-requires : goal.walk_all-all-requires
+walk_all-all-requires c = (c.requires.0, c.requires.2, c.requires.3, le-ltb _ _ (omega arith), counts_all _ _ c.requires.1 (omega arith))
+
+pub returns : goal.returns
+returns c =
+    let a = c.args in
+    let ps = polylines 0 (points_in a.points.now) a.ends.now in
+    ap not (c.is_full.ensures [] [])
+    ∙ count_fits _ _ (all_events a.cycle.now a.start ps) c.walk_all-all.ensures
+    ∙ ap (λ (n : ℕ). leb n a.cap) (zero-add _ ∙ ap length (all_drawn a.cycle.now a.start ps false))

@@ -1,0 +1,40 @@
+-- `walk_all` meets its contract. Assumes nothing.
+use Rattle.std.proofs.Common.{◌≡◌, sym, ◌∙◌, ap, ℕ, List, [], length, drop, Option, None, Some, Bor, arith, length-drop, inl, inr}
+use Rattle.std.proofs.lemmas.List.{take_all}
+use Rattle.std.proofs.Math.ListN.{drop_of_length-le}
+use Rattle.std.specs.Slice.{IsGetRangeResult}
+use Rattle.std.specs.Option.{UnwrapsOrElse}
+use lib.Ieee.{Float}
+use Rattle.strokes.proofs.Lengths.{kept_part}
+use Rattle.outline.proofs.Ends.{in_order, one_taken, one_over, one_on}
+use Rattle.walk.proofs.walk_all.Goals as goal
+
+-- the lengths from `from` on, none where there are no more
+rest_of : (xs : List Float) (from : ℕ) (r : Option (Bor (List Float))) (x : Bor (List Float)) → IsGetRangeResult xs from (length xs) r → UnwrapsOrElse r (λ z. z.now ≡ []) x →
+    x.now ≡ drop from xs
+rest_of xs from None x g u = u ∙ sym (drop_of_length-le xs (elim g.0 [ inl l ↦ omega arith | inr l ↦ absurd (omega arith) ]))
+rest_of xs from (Some y) x g u = ap (λ (z : Bor (List Float)). z.now) u ∙ g.0.2 ∙ take_all _ _ (omega (arith, length-drop from xs))
+
+pub walk_polyline-pen-requires : goal.walk_polyline-pen-requires
+walk_polyline-pen-requires g c =
+    let a = c.args in
+    let l = c.loop-end in
+    let o = in_order a.cycle.now a.start a.points.now g.met.P.Pen.laws l.from l.end-index _ c.loop-end-test.true l.invariant in
+    let e = rest_of a.lengths.now l.from _ _ c.get.ensures.lookup c.unwrap_or_default-kept.ensures in (
+      c.requires.0,
+      rw e (kept_part a.points.now l.from _ o.0 o.1 a.lengths.now c.requires.2),
+      l.invariant.free,
+      one_taken a.cycle.now a.start a.points.now g.met.P.Pen.laws l.from l.end-index _ c.loop-end-test.true l.invariant,
+    )
+
+pub returns-then-is_full : goal.returns-then-is_full
+returns-then-is_full g c =
+    let a = c.args in
+    let l = c.loop-end in
+    one_over a.cycle.now a.start a.points.now g.met.P.Pen.laws l.from l.end-index _ c.loop-end-test.true l.invariant _ c.walk_polyline-pen.ensures (sym (c.is_full.ensures _ _) ∙ c.if-is_full.true)
+
+pub loop-end-preserved : goal.loop-end-preserved
+loop-end-preserved g c =
+    let a = c.args in
+    let l = c.loop-end in
+    one_on a.cycle.now a.start a.points.now g.met.P.Pen.laws l.from l.end-index _ c.loop-end-test.true l.invariant _ c.walk_polyline-pen.ensures (sym (c.is_full.ensures _ _) ∙ c.if-is_full.false)
