@@ -1,60 +1,39 @@
 -- Laws of what a conic lays.
---     any_asked       no conic is refused where any has room
---     bent_drawn      its quads stored behind the opening
---     bent_refused    refused, nothing is stored, and no quad counted
---     curved_few, curved_fits    the number of quads in the answer
+--     all_verbs, all_twice     how many verbs and points its quads are, with what goes before them
+--     bent                     its quads stored behind the opening
+--     curved_fits              how many are laid, and their room
 -- Assumes nothing.
-use mathlib.Core.Path.{◌≡◌, sym, ap, ◌∙◌}
-use mathlib.Core.Bool.{Bool}
-use mathlib.Core.List.{List}
-use Prim.Native.Nat.{ℕ, zero, suc, ◌+◌, ◌*◌, ◌≤◌}
-use native.Mathlib.Omega.{arith}
+use mathlib.Core.Path.{◌≡◌, ◌∙◌, ap}
+use mathlib.Core.List.{List, ◌++◌}
+use Prim.Native.Nat.{ℕ, ◌+◌, ◌*◌}
 use lib.ListN.{length}
 use lib.Ieee.{Float}
-use Rattle.vec2.specs.declared.Vec2.{Vec2}
+use Rattle.std.specs.Prelude.{Ok}
 use Rattle.path.specs.Segment.{all_points}
-use Rattle.halves.specs.Conic.{most_quads, quads}
-use Rattle.halves.proofs.Laws.{quads_most, quads_points}
-use Rattle.conic.specs.Lay.{Bent}
-use Rattle.store.specs.Refusal.{refusal_of, Fits}
-use Rattle.store.specs.Store.{unless, Stored}
-use Rattle.store.proofs.Refusals.{refusal_fewer}
-use Rattle.store.proofs.Laws.{unless_not}
-use Rattle.drawing.specs.Lay.{opening, lead}
-use Rattle.drawing.proofs.Laws.{drawn, drawn_fits}
+use Rattle.halves.proofs.Laws.{quads_points}
+use Rattle.conic.specs.declared.Conic.{Conic}
+use Rattle.conic.specs.Lay.{quads_of, Bent}
+use Rattle.store.specs.declared.Standing.{Standing}
+use Rattle.store.specs.Refusal.{Fits}
+use Rattle.store.specs.Store.{behind, Stored}
+use Rattle.store.proofs.Stored.{stored_append, laid_fits}
 use Rattle.bending.specs.Bend.{Curved}
+use Rattle.drawing.specs.Lay.{opening, lead}
+use Rattle.drawing.proofs.Laws.{opened_verbs, opened_points}
 
-module _ (t : Bool) (v k : ℕ) (a c p : Vec2) (w : Float) where
-  pub any_asked : (nv nf : ℕ) → refusal_of v k t nv nf (lead t + most_quads) (lead t + 2 * most_quads) ≡ 0
-      → 0 ≡ refusal_of v k t nv nf (lead t + length (quads a c p w)) (lead t + 2 * length (quads a c p w))
-  any_asked nv nf h = let m = quads_most a c p w in refusal_fewer v k t nv nf _ _ _ _ (omega (arith, m)) (omega (arith, m)) h
+module _ (at : Standing) (c : Conic) where
+  pub all_verbs : length (opening at.started ++ quads_of c) ≡ lead at.started + length (quads_of c)
+  all_verbs = opened_verbs at.started (quads_of c)
 
-  module _ (n r : ℕ) (vs : List ℕ) (fs : List Float) (asked : n ≡ refusal_of v k t (length vs) (length fs) (lead t + r) (lead t + 2 * r)) (all : r ≡ length (quads a c p w)) where
-    number : n ≡ refusal_of v k t (length vs) (length fs) (lead t + length (quads a c p w)) (lead t + length (all_points (quads a c p w)))
-    number = asked ∙ rw (all, quads_points a c p w)
+  pub all_twice : length (all_points (opening at.started ++ quads_of c)) ≡ lead at.started + 2 * length (quads_of c)
+  all_twice = opened_points at.started (quads_of c) ∙ ap (λ (n : ℕ). lead at.started + n) (quads_points c.from c.ctrl c.to c.weight)
 
-    pub bent_drawn : (l : ℕ) {vs' vs'' : List ℕ} {fs' fs'' : List Float} → n ≡ 0 → l ≡ lead t → Stored 0 v k vs fs (opening t) vs' fs' →
-        Bent (quads a c p w) r vs' (v + l) vs'' fs' (2 * (k + l)) fs'' → Curved 0 r t v k vs fs a c p w vs'' fs''
-    bent_drawn l z hl g b = record { counted = all; drawn = drawn (quads a c p w) l hl (sym z ∙ number) g b.verbs b.floats }
+  pub bent : {next : Standing} {q : ℕ} {vs vs' vs'' : List ℕ} {fs fs' fs'' : List Float} → next ≡ behind at (opening at.started) → Stored at vs fs (opening at.started) vs' fs' →
+      Bent (quads_of c) q vs' next.verbs vs'' fs' (2 * next.points) fs'' → Stored at vs fs (opening at.started ++ quads_of c) vs'' fs''
+  bent e g b = stored_append at (opening at.started) (quads_of c) g (record { bytes = rw (← e) b.verbs; floats = rw (← e) b.floats })
 
-    pub bent_refused : (n ≡ 0 → ⊥) → Curved n 0 t v k vs fs a c p w vs fs
-    bent_refused h =
-        record {
-          counted = unless_not n 0 _ h;
-          drawn = record { number = number; stored = record { bytes = unless_not n vs _ h; floats = unless_not n fs _ h } };
-        }
-
--- what is counted is at most 64 quads
-few : (n q : ℕ) (a c p : Vec2) (w : Float) → q ≡ unless n 0 (length (quads a c p w)) → q ≤ 64
-few zero q a c p w e = omega (arith, e, quads_most a c p w)
-few (suc n) q a c p w e = omega (arith, e)
-
-module _ {n q : ℕ} {t : Bool} {v k : ℕ} {vs vs' : List ℕ} {fs fs' : List Float} {a c p : Vec2} {w : Float} (l : Curved n q t v k vs fs a c p w vs' fs') where
-  pub curved_few : q ≤ 64
-  curved_few = few n q a c p w l.counted
-
-  -- and has room, where no number refuses it
-  pub curved_fits : n ≡ 0 → Fits v k (length vs) (length fs) (lead t + q) (lead t + 2 * q)
-  curved_fits z =
-      let h : q ≡ length (quads a c p w) = l.counted ∙ ap (λ (m : ℕ). unless m 0 (length (quads a c p w))) z in
-      rw (h, ← quads_points a c p w) (drawn_fits (quads a c p w) l.drawn z)
+  pub curved_fits : {q : ℕ} {vs vs' : List ℕ} {fs fs' : List Float} → Curved (Ok q) at c vs fs vs' fs' →
+      (q ≡ length (quads_of c)) × Fits at (length vs) (length fs) (lead at.started + q) (lead at.started + 2 * q)
+  curved_fits g =
+      let f = laid_fits (opening at.started ++ quads_of c) g in
+      (f.0, rw (f.0, ← all_verbs, ← all_twice) f.1)

@@ -11,9 +11,10 @@ use Rattle.path.specs.declared.Segment.TheVariants.{Move, Line, Close}
 use Rattle.store.specs.Refusal.{verb_cap, point_cap, bad_state, no_room, refusal_of}
 use Rattle.builder.specs.declared.Call.{Call}
 use Rattle.builder.specs.declared.Call.TheVariants.{MoveTo, LineTo, QuadTo, Close as CloseIt, AsRoundedRect}
-use Rattle.builder.specs.declared.Note.TheVariants.{Unknown}
+use Rattle.path.specs.declared.Refusal.TheVariants.{OddFloats, BuilderFull}
+use Rattle.std.specs.Prelude.{Ok, Err, None}
 use Rattle.builder.specs.Call.{lays}
-use Rattle.builder.specs.Build.{Built, fresh_over, run, refusals, called, pushed, steps, set_by, finite_box, refusal, note_of, pen_of}
+use Rattle.builder.specs.Build.{Built, fresh_over, run, answers, called, quads_laid, pushed, steps, set_by, finite_box, refusal, note_of, pen_of}
 use Rattle.builder.specs.Laid.{laid_by, laid_from, lay, puts}
 
 -- four bytes and six floats
@@ -39,12 +40,12 @@ line_floats : (run lent line).floats ≡ f0 ∷ f0 ∷ whole 3 ∷ whole 4 ∷ f
 unfolding run called pushed lays steps refusal refusal_of bad_state no_room verb_cap point_cap of_bits of_int
 line_floats = refl
 
-tight_refusals : refusals lent tight ≡ 0 ∷ 0 ∷ 2 ∷ 0 ∷ 0 ∷ 2 ∷ []
-unfolding refusals called pushed lays steps refusal refusal_of bad_state no_room verb_cap point_cap of_bits of_int
-tight_refusals = refl
+tight_answers : answers lent tight ≡ Ok 0 ∷ Ok 0 ∷ Err BuilderFull ∷ Ok 0 ∷ Ok 0 ∷ Err BuilderFull ∷ []
+unfolding answers called quads_laid pushed lays steps refusal refusal_of bad_state no_room verb_cap point_cap of_bits of_int
+tight_answers = refl
 
 tight_laid : laid_by tight (9 ∷ 9 ∷ 9 ∷ 9 ∷ []) (f1 ∷ f1 ∷ f1 ∷ f1 ∷ f1 ∷ f1 ∷ []) ≡ Move (at 1 2) ∷ Line (at 3 4) ∷ Close ∷ Line (at 5 6) ∷ []
-unfolding refusals called pushed lays steps refusal refusal_of bad_state no_room verb_cap point_cap laid_from lay puts of_bits of_int
+unfolding answers called quads_laid pushed lays steps refusal refusal_of bad_state no_room verb_cap point_cap laid_from lay puts of_bits of_int
 tight_laid = refl
 
 -- after a close the pen is at the move's point
@@ -53,15 +54,15 @@ unfolding run called pushed lays steps refusal refusal_of bad_state no_room verb
 closed_pen = refl
 
 -- close on an empty builder; an odd number of floats
-nothing_closed : refusals lent (CloseIt ∷ []) ≡ 0 ∷ []
-unfolding refusals called pushed lays steps refusal refusal_of bad_state no_room verb_cap point_cap of_bits
+nothing_closed : answers lent (CloseIt ∷ []) ≡ Ok 0 ∷ []
+unfolding answers called quads_laid pushed lays steps refusal refusal_of bad_state no_room verb_cap point_cap of_bits
 nothing_closed = refl
 
-odd : refusals (fresh_over [] (f1 ∷ [])) (CloseIt ∷ MoveTo origin ∷ []) ≡ 1 ∷ 1 ∷ []
-unfolding refusals called pushed lays steps refusal refusal_of of_bits
+odd : answers (fresh_over [] (f1 ∷ [])) (CloseIt ∷ MoveTo origin ∷ []) ≡ Err OddFloats ∷ Err OddFloats ∷ []
+unfolding answers called quads_laid pushed lays steps refusal refusal_of of_bits
 odd = refl
 
 -- a note that isn't finite clears the one before
-cleared : note_of (run lent (AsRoundedRect (record { min = at 1 2; max = at 3 4 }) f1 ∷ AsRoundedRect (record { min = at 1 2; max = at 3 4 }) nan ∷ [])).state ≡ Unknown
+cleared : note_of (run lent (AsRoundedRect (record { min = at 1 2; max = at 3 4 }) f1 ∷ AsRoundedRect (record { min = at 1 2; max = at 3 4 }) nan ∷ [])).state ≡ None
 unfolding run called set_by finite_box all_finite is_finite of_bits of_int
 cleared = refl

@@ -4,11 +4,14 @@
 use mathlib.Core.Path.{◌≡◌, refl, sym, ap, ◌∙◌}
 use mathlib.Core.Bool.{Bool, true, false, cond}
 use mathlib.Core.List.{List, [], ◌∷◌, ◌++◌, append_assoc, append-nil}
-use Prim.Native.Nat.{ℕ, zero, suc, ◌+◌, ◌*◌, ◌≤◌}
+use Prim.Native.Nat.{ℕ, ◌+◌, ◌*◌, ◌≤◌}
 use native.Mathlib.Omega.{arith}
 use lib.ListN.{length, take, length-append}
 use lib.Seq.{length-sets}
 use lib.Ieee.{Float}
+use Rattle.std.specs.Prelude.{Result, Ok, Err}
+use Rattle.std.specs.Result.{is_err}
+use Rattle.path.specs.declared.Refusal.{Refusal}
 use Rattle.vec2.specs.Points.{flat}
 use Rattle.vec2.proofs.Lists.{take-stored}
 use Rattle.vec2.proofs.Points.{flat_append, length-flat}
@@ -21,10 +24,10 @@ use Rattle.builder.specs.declared.PathBuilder.{PathBuilder}
 use Rattle.builder.specs.declared.Call.{Call}
 use Rattle.builder.specs.declared.Call.TheVariants.{MoveTo, LineTo, QuadTo, ConicTo, CubicTo, Close as CloseIt, WithFillRule, AsRoundedRect}
 use Rattle.builder.specs.Call.{lays}
-use Rattle.builder.specs.Build.{start_of, pen_of, step, steps, ruled_by, noted_as, set_by, finite_box, refusal, new, Built, pushed_by, pushed, called, call, left_by, run, refusals, fresh_over}
+use Rattle.builder.specs.Build.{standing, start_of, pen_of, step, steps, ruled_by, noted_as, set_by, finite_box, refusal, new, Built, pushed_by, pushed, called, call, left_by, run, answers, refusals, fresh_over}
 use Rattle.builder.specs.Laid.{Laid, nothing, put, puts, some, lay, feed, laid_from, laid_by, path_verbs, path_floats}
 use Rattle.store.specs.Refusal.{Fits}
-use Rattle.builder.proofs.Laws.{refusal_room}
+use Rattle.store.proofs.Refusals.{refusal_fits}
 
 -- ---- what holds between a builder and the laid list
 
@@ -91,8 +94,8 @@ steps_counts (x ∷ xs) b =
 
 module _ (b : Built) (l : Laid) (i : Inv b l) where
   -- segments that have room
-  grow : (q : ℕ) (ss : List Segment) → Fits b.state.verbs b.state.points (length b.bytes) (length b.floats) (length ss) (length (all_points ss)) →
-      Inv (left_by (pushed_by 0 q b.state b.bytes b.floats ss)) (puts l ss)
+  grow : (q : ℕ) (ss : List Segment) → Fits (standing b.state) (length b.bytes) (length b.floats) (length ss) (length (all_points ss)) →
+      Inv (left_by (pushed_by (Ok tt) q b.state b.bytes b.floats ss)) (puts l ss)
   grow q ss r =
       let n = steps_counts ss b.state in
       let e = puts_segs ss l in
@@ -115,11 +118,11 @@ module _ (b : Built) (l : Laid) (i : Inv b l) where
   agree c = rw (i.same.started, i.same.pen)
 
   -- refused or not
-  fed_by : (n q : ℕ) (c : Call) → refusal b.state (length b.bytes) (length b.floats) (length (new b.state c)) (length (all_points (new b.state c))) ≡ n →
-      Inv (left_by (pushed_by n q b.state b.bytes b.floats (new b.state c))) (feed n l c)
-  unfolding lay
-  fed_by zero q c e = rw (← agree c) (grow q (new b.state c) (refusal_room b.state _ _ _ _ e))
-  fed_by (suc n) q c e = i
+  fed_by : (n : Result Unit Refusal) (q : ℕ) (c : Call) → refusal b.state (length b.bytes) (length b.floats) (length (new b.state c)) (length (all_points (new b.state c))) ≡ n →
+      Inv (left_by (pushed_by n q b.state b.bytes b.floats (new b.state c))) (feed (is_err (pushed_by n q b.state b.bytes b.floats (new b.state c)).reply.quads) l c)
+  unfolding lay refusal
+  fed_by (Ok x) q c e = rw (← agree c) (grow q (new b.state c) (refusal_fits (standing b.state) _ _ _ _ e))
+  fed_by (Err r) q c e = i
 
   -- the fill rule and the note
   still : (s : PathBuilder) → s.verbs ≡ b.state.verbs → s.points ≡ b.state.points → s.started ≡ b.state.started → pen_of s ≡ pen_of b.state → start_of s ≡ start_of b.state →
@@ -140,23 +143,23 @@ module _ (b : Built) (l : Laid) (i : Inv b l) where
   noted_still true s u h k = h
   noted_still false s u h k = k
 
-  fed : (c : Call) → Inv (left_by (call b c)) (feed (call b c).reply.refused l c)
+  fed : (c : Call) → Inv (left_by (call b c)) (feed (is_err (call b c).reply.quads) l c)
   unfolding called pushed lays lay puts set_by
-  fed (MoveTo p) = fed_by _ 0 (MoveTo p) refl
-  fed (LineTo p) = fed_by _ 0 (LineTo p) refl
-  fed (QuadTo c p) = fed_by _ 0 (QuadTo c p) refl
-  fed (ConicTo c p w) = fed_by _ 0 (ConicTo c p w) refl
-  fed (CubicTo c d p) = fed_by _ 0 (CubicTo c d p) refl
-  fed CloseIt = fed_by _ 0 CloseIt refl
+  fed (MoveTo p) = fed_by _ _ (MoveTo p) refl
+  fed (LineTo p) = fed_by _ _ (LineTo p) refl
+  fed (QuadTo c p) = fed_by _ _ (QuadTo c p) refl
+  fed (ConicTo c p w) = fed_by _ _ (ConicTo c p w) refl
+  fed (CubicTo c d p) = fed_by _ _ (CubicTo c d p) refl
+  fed CloseIt = fed_by _ _ CloseIt refl
   fed (WithFillRule r) = still (ruled_by b.state r) refl refl refl refl refl
   fed (AsRoundedRect x r) = noted_still (finite_box x.min x.max r) _ _ (still (noted_as b.state true x.min x.max _) refl refl refl refl refl) (still (noted_as b.state false _ _ _) refl refl refl refl refl)
 
 -- ---- a list of calls
 
 pub ran : (cs : List Call) (b : Built) (l : Laid) → Inv b l → Inv (run b cs) (laid_from l cs (refusals b cs))
-unfolding run refusals laid_from
+unfolding run answers laid_from
 ran [] b l i = i
-ran (c ∷ cs) b l i = ran cs (left_by (call b c)) (feed (call b c).reply.refused l c) (fed b l i c)
+ran (c ∷ cs) b l i = ran cs (left_by (call b c)) (feed (is_err (call b c).reply.quads) l c) (fed b l i c)
 
 pub begins : (bs : List ℕ) (fs : List Float) → Inv (fresh_over bs fs) nothing
 begins bs fs =

@@ -1,144 +1,109 @@
--- A list laid behind what stands, by code that stores segment by segment, and the state behind it.
---     opened                    the state behind what a drawn call lays
---     replied, laid_done        the whole outcome of a call; of a drawn one
---     line_called …             of a line, a quad, a cubic
---     conic_line, conic_called  of a conic that is a line, or quads
+-- A list that was laid behind what stands, and the state behind it.
+--     draws_one, draws_quads, opened    the state behind drawn segments, and behind those with their opening
+--     replied, answered, unmoved        the whole outcome of a call, from what was laid
+--     close_called                      a close, where something stands and where nothing does
+--     conic_line, conic_called          a conic that is a line, or quads
+--     past_quads                        where it stands behind a conic's quads
 -- Assumes nothing.
 use mathlib.Core.Path.{◌≡◌, refl, sym, ap, ◌∙◌}
 use mathlib.Core.Bool.{Bool, true, false}
 use mathlib.Core.List.{List, [], ◌∷◌, ◌++◌}
-use Prim.Native.Nat.{ℕ, zero, suc, ◌+◌, ◌*◌}
-use native.Mathlib.Nat.{zero-add, add_assoc}
+use Prim.Native.Nat.{ℕ, ◌+◌, ◌*◌}
 use native.Mathlib.Omega.{arith}
-use lib.ListN.{length, length-append}
+use lib.ListN.{length}
 use lib.Seq.{sets}
 use lib.Ieee.{Float}
+use Rattle.std.specs.Prelude.{Result, Ok, Err}
+use Rattle.std.specs.Result.{result_and}
 use Rattle.vec2.specs.declared.Vec2.{Vec2}
 use Rattle.vec2.specs.Vec2.{origin}
 use Rattle.vec2.specs.Points.{flat}
+use Rattle.path.specs.declared.Refusal.{Refusal}
+use Rattle.path.specs.Refusal.{unless}
 use Rattle.path.specs.declared.Segment.{Segment}
-use Rattle.path.specs.declared.Segment.TheVariants.{Move, Line, Quad, Cubic}
-use Rattle.path.specs.Segment.{bytes_of, all_points}
-use Rattle.path.proofs.Encoded.{all_points-append}
+use Rattle.path.specs.declared.Segment.TheVariants.{Move, Line, Quad, Cubic, Close}
+use Rattle.path.specs.Segment.{is_drawn, end_of, bytes_of, all_points}
 use Rattle.halves.specs.Conic.{straight, quads}
-use Rattle.halves.proofs.Laws.{Quads, one, more, quads_quads, quads_points}
-use Rattle.store.specs.Store.{unless, Stored}
-use Rattle.store.proofs.Laws.{unless_same_lem}
-use Rattle.store.proofs.Stored.{stored_nil}
-use Rattle.drawing.specs.Lay.{opening, lead, Drawn}
-use Rattle.drawing.proofs.Laws.{lead_length, lead_points}
-use Rattle.bending.specs.Bend.{Curved}
-use Rattle.builder.specs.declared.Call.TheVariants.{LineTo, QuadTo, ConicTo, CubicTo}
+use Rattle.halves.proofs.Laws.{Quads, one, more}
+use Rattle.conic.specs.declared.Conic.{Conic}
+use Rattle.conic.specs.Lay.{quads_of}
+use Rattle.store.specs.declared.Standing.{Standing}
+use Rattle.store.specs.Store.{next, behind, Laid}
+use Rattle.store.proofs.Stored.{behind_counts}
+use Rattle.drawing.specs.Lay.{opening, lead}
+use Rattle.bending.proofs.Laws.{all_verbs, all_twice}
+use Rattle.builder.specs.declared.Call.TheVariants.{LineTo, ConicTo, Close as CloseIt}
 use Rattle.builder.specs.declared.PathBuilder.{PathBuilder}
-use Rattle.builder.specs.declared.Reply.{Reply}
-use Rattle.builder.specs.Call.{from, lays}
-use Rattle.builder.specs.Build.{start_of, moved, step, steps, refusal, Outcome, outcome, pushed_by, pushed, quads_laid, called, pen_of}
-use Rattle.builder.specs.Replied.{drawn_by, replied_by}
-
--- ---- the buffers
-
-pub begun_nil : (n : ℕ) (b : PathBuilder) (vs : List ℕ) (fs : List Float) → Stored n b.verbs b.points vs fs [] vs fs
-begun_nil n b vs fs = stored_nil n b.verbs b.points vs fs
+use Rattle.builder.specs.Call.{from, closing, lays}
+use Rattle.builder.specs.Build.{standing, start_of, pen_of, step, steps, refusal, Outcome, outcome, pushed_by, pushed, quads_laid, called}
+use Rattle.builder.specs.Replied.{moved_to, replied_by}
 
 -- ---- the state
 
-moved_twice : (b : PathBuilder) (v k v' k' : ℕ) (a p a' p' : Vec2) → moved (moved b v k a p) v' k' a' p' ≡ moved b (v + v') (k + k') a' p'
-moved_twice b v k v' k' a p a' p' = rw (add_assoc b.verbs v v', add_assoc b.points k k')
+-- segments that leave the latest move's point, and end at p
+abbrev pub Draws : List Segment → Vec2 → Type 0
+Draws ts p = (b : PathBuilder) → moved_to b (behind (standing b) ts) (start_of b) p ≡ steps b ts
 
-moved_as : (b : PathBuilder) {v k v' k' : ℕ} {a p : Vec2} → v ≡ v' → k ≡ k' → moved b v k a p ≡ moved b v' k' a p
-moved_as b e d = rw (e, d)
-
--- segments that leave the latest move's point, with v verbs and k points, and end at p
-abbrev pub Draws : List Segment → ℕ → ℕ → Vec2 → Type 0
-Draws ts v k p = (c : PathBuilder) → steps c ts ≡ moved c v k (start_of c) p
-
-opened : (t : Bool) (b : PathBuilder) (ts : List Segment) (v k : ℕ) (p : Vec2) → Draws ts v k p →
-    steps b (opening t ++ ts) ≡ moved b (lead t + v) (lead t + k) (from t (start_of b)) p
+pub draws_one : (s : Segment) → is_drawn s ≡ true → Draws (s ∷ []) (end_of s)
 unfolding steps
-opened true b ts v k p d = rw (zero-add v, zero-add k) (d b)
-opened false b ts v k p d = d (step b (Move origin)) ∙ moved_twice b 1 1 v k origin origin origin p
+draws_one (Move p) h b = absurd (cc)
+draws_one (Line p) h b = refl
+draws_one (Quad c p) h b = refl
+draws_one (Cubic c d p) h b = refl
+draws_one Close h b = absurd (cc)
 
-pub draws_line : (p : Vec2) → Draws (Line p ∷ []) 1 1 p
+pub draws_quads : (t : Vec2) (qs : List Segment) → Quads t qs → Draws qs t
 unfolding steps
-draws_line p c = refl
+draws_quads t qs (one c) b = refl
+draws_quads t qs (more c p rs h) b = draws_quads t rs h (step b (Quad c p))
 
-pub draws_quad : (a p : Vec2) → Draws (Quad a p ∷ []) 1 2 p
+pub opened : (t : Bool) (b : PathBuilder) (ts : List Segment) (p : Vec2) → Draws ts p →
+    moved_to b (behind (standing b) (opening t ++ ts)) (from t (start_of b)) p ≡ steps b (opening t ++ ts)
 unfolding steps
-draws_quad a p c = refl
-
-pub draws_cubic : (a b p : Vec2) → Draws (Cubic a b p ∷ []) 1 3 p
-unfolding steps
-draws_cubic a b p c = refl
-
-draws_quads : (t : Vec2) (qs : List Segment) → Quads t qs → Draws qs (length qs) (2 * length qs) t
-unfolding steps
-draws_quads t qs (one a) c = refl
-draws_quads t qs (more a p rs h) c =
-    draws_quads t rs h (step c (Quad a p)) ∙ moved_twice c 1 2 (length rs) (2 * length rs) (start_of c) p (start_of c) t
-    ∙ moved_as c (omega arith) (omega arith)
-
-pub drawn_as : (n q : ℕ) (b : PathBuilder) (v k : ℕ) (p : Vec2) {l : ℕ} {a : Vec2} → l ≡ lead b.started → a ≡ from b.started (start_of b) →
-    replied_by n q b (moved b (l + v) (l + k) a p) ≡ replied_by n q b (drawn_by b v k p)
-drawn_as n q b v k p e d = rw (e, d)
+opened true b ts p d = d b
+opened false b ts p d = d (step b (Move origin))
 
 -- ---- the outcome
 
-pub reply_as : (n q : ℕ) (b s : PathBuilder) {t : PathBuilder} → t ≡ unless n b s → record { state = t; quads = q; refused = n } ≡ replied_by n q b s
-reply_as n q b s e = ap (λ (s : PathBuilder). record { state = s; quads = q; refused = n }) e
+module _ (b : PathBuilder) (vs : List ℕ) (fs : List Float) (ss : List Segment) {vs' : List ℕ} {fs' : List Float} where
+  replied_as : (n : Result Unit Refusal) (r : Result Standing Refusal) (a p : Vec2) → r ≡ result_and n (Ok (behind (standing b) ss)) →
+      vs' ≡ unless r vs (sets vs b.verbs (bytes_of ss)) → fs' ≡ unless r fs (sets fs (2 * b.points) (flat (all_points ss))) →
+      moved_to b (behind (standing b) ss) a p ≡ steps b ss → outcome (replied_by r b a p) vs' fs' ≡ pushed_by n 0 b vs fs ss
+  replied_as (Ok x) r a p e ev ef m = rw (ev, ef, e, m)
+  replied_as (Err x) r a p e ev ef m = rw (ev, ef, e)
 
-module _ (q : ℕ) (b : PathBuilder) (vs : List ℕ) (fs : List Float) (ss : List Segment) where
-  pub replied : (n : ℕ) {r : Reply} {q' : ℕ} {vs' : List ℕ} {fs' : List Float} →
-      n ≡ refusal b (length vs) (length fs) (length ss) (length (all_points ss)) → r ≡ replied_by n q' b (steps b ss) → q' ≡ unless n 0 q →
-      Stored n b.verbs b.points vs fs ss vs' fs' → outcome r vs' fs' ≡ pushed q b vs fs ss
+  pub replied : (r : Result Standing Refusal) (a p : Vec2) → Laid r (behind (standing b) ss) (standing b) vs fs ss vs' fs' →
+      moved_to b (behind (standing b) ss) a p ≡ steps b ss → outcome (replied_by r b a p) vs' fs' ≡ pushed 0 b vs fs ss
+  unfolding pushed refusal
+  replied r a p g m = replied_as _ r a p g.answer g.bytes g.floats m
+
+  answered_as : (n : Result Unit Refusal) (r : Result ℕ Refusal) (q : ℕ) → r ≡ result_and n (Ok q) →
+      vs' ≡ unless r vs (sets vs b.verbs (bytes_of ss)) → fs' ≡ unless r fs (sets fs (2 * b.points) (flat (all_points ss))) →
+      outcome (record { state = unless r b (steps b ss); quads = r }) vs' fs' ≡ pushed_by n q b vs fs ss
+  answered_as (Ok x) r q e ev ef = rw (ev, ef, e)
+  answered_as (Err x) r q e ev ef = rw (ev, ef, e)
+
+  pub answered : (r : Result ℕ Refusal) (q : ℕ) → Laid r q (standing b) vs fs ss vs' fs' →
+      outcome (record { state = unless r b (steps b ss); quads = r }) vs' fs' ≡ pushed q b vs fs ss
+  unfolding pushed refusal
+  answered r q g = answered_as _ r q g.answer g.bytes g.floats
+
+module _ (b : PathBuilder) (vs : List ℕ) (fs : List Float) where
+  unmoved_as : (n : Result Unit Refusal) (r : Result ℕ Refusal) → r ≡ result_and n (Ok 0) → outcome (record { state = b; quads = r }) vs fs ≡ pushed_by n 0 b vs fs []
+  unfolding steps
+  unmoved_as (Ok x) r e = rw e
+  unmoved_as (Err x) r e = rw e
+
+  pub unmoved : (r : Result ℕ Refusal) → r ≡ result_and (refusal b (length vs) (length fs) 0 0) (Ok 0) → outcome (record { state = b; quads = r }) vs fs ≡ pushed 0 b vs fs []
   unfolding pushed
-  replied n e er eq g =
-      let h : outcome (replied_by n (unless n 0 q) b (steps b ss)) (unless n vs (sets vs b.verbs (bytes_of ss))) (unless n fs (sets fs (2 * b.points) (flat (all_points ss)))) ≡ pushed_by n q b vs fs ss = refl in
-      rw (er, eq, g.bytes, g.floats) h ∙ ap (λ (k : ℕ). pushed_by k q b vs fs ss) e
+  unmoved r e = unmoved_as _ r e
 
--- the same list by another name
-pub pushed_as : (q : ℕ) (b : PathBuilder) (vs : List ℕ) (fs : List Float) {o : Outcome} {ss ts : List Segment} → ss ≡ ts → o ≡ pushed q b vs fs ss → o ≡ pushed q b vs fs ts
-pushed_as q b vs fs e h = h ∙ ap (λ (l : List Segment). pushed q b vs fs l) e
-
-module _ (q : ℕ) (b : PathBuilder) (vs : List ℕ) (fs : List Float) (ts : List Segment) where
-  count_all : length (opening b.started ++ ts) ≡ lead b.started + length ts
-  count_all = omega (arith, length-append (opening b.started) ts, lead_length b.started)
-
-  points_all : length (all_points (opening b.started ++ ts)) ≡ lead b.started + length (all_points ts)
-  points_all = rw (all_points-append (opening b.started) ts) (omega (arith, length-append (all_points (opening b.started)) (all_points ts), lead_points b.started))
-
-  pub laid_done : (n v k : ℕ) (p : Vec2) {r : Reply} {q' : ℕ} {vs' : List ℕ} {fs' : List Float} →
-      v ≡ length ts → k ≡ length (all_points ts) → Draws ts v k p →
-      n ≡ refusal b (length vs) (length fs) (lead b.started + v) (lead b.started + k) → Stored n b.verbs b.points vs fs (opening b.started ++ ts) vs' fs' →
-      r ≡ replied_by n q' b (drawn_by b v k p) → q' ≡ unless n 0 q →
-      outcome r vs' fs' ≡ pushed q b vs fs (opening b.started ++ ts)
-  laid_done n v k p {r} {q'} hv hk d e g er eq =
-      replied q b vs fs (opening b.started ++ ts) n
-      (e ∙ rw (hv, hk, count_all, points_all))
-      (er ∙ ap (λ (s : PathBuilder). replied_by n q' b s) (sym (opened b.started b ts v k p d)))
-      eq
-      g
-
--- a line, a quad, a cubic, as they were laid
-
-module _ (b : PathBuilder) (vs : List ℕ) (fs : List Float) (n : ℕ) {r : Reply} {vs' : List ℕ} {fs' : List Float} where
-  pub line_called : (p : Vec2) → Drawn n b.started b.verbs b.points vs fs (Line p ∷ []) vs' fs' → r ≡ replied_by n 0 b (drawn_by b 1 1 p) → outcome r vs' fs' ≡ called b vs fs (LineTo p)
-  unfolding called lays quads_laid refusal
-  line_called p d er = laid_done 0 b vs fs (Line p ∷ []) n 1 1 p refl refl (draws_line p) d.number d.stored er (unless_same_lem n 0)
-
-  pub quad_called : (c p : Vec2) → Drawn n b.started b.verbs b.points vs fs (Quad c p ∷ []) vs' fs' → r ≡ replied_by n 0 b (drawn_by b 1 2 p) → outcome r vs' fs' ≡ called b vs fs (QuadTo c p)
-  unfolding called lays quads_laid refusal
-  quad_called c p d er = laid_done 0 b vs fs (Quad c p ∷ []) n 1 2 p refl refl (draws_quad c p) d.number d.stored er (unless_same_lem n 0)
-
-  pub cubic_called : (c d p : Vec2) → Drawn n b.started b.verbs b.points vs fs (Cubic c d p ∷ []) vs' fs' → r ≡ replied_by n 0 b (drawn_by b 1 3 p) → outcome r vs' fs' ≡ called b vs fs (CubicTo c d p)
-  unfolding called lays quads_laid refusal
-  cubic_called c d p g er = laid_done 0 b vs fs (Cubic c d p ∷ []) n 1 3 p refl refl (draws_cubic c d p) g.number g.stored er (unless_same_lem n 0)
+  -- a close is laid where something stands
+  pub close_called : (t : Bool) {o : Outcome} → b.started ≡ t → o ≡ pushed 0 b vs fs (closing t) → o ≡ called b vs fs CloseIt
+  unfolding called lays quads_laid
+  close_called t e h = h ∙ ap (λ (u : Bool). pushed 0 b vs fs (closing u)) (sym e)
 
 -- ---- conics
-
--- where the number refuses, no count shows
-quads_as : (n q m : ℕ) (b : PathBuilder) (t : Vec2) → q ≡ unless n 0 m → replied_by n q b (drawn_by b q (2 * q) t) ≡ replied_by n q b (drawn_by b m (2 * m) t)
-quads_as zero q m b t e = ap (λ (k : ℕ). replied_by 0 q b (drawn_by b k (2 * k) t)) e
-quads_as (suc n) q m b t e = refl
 
 module _ (b : PathBuilder) (vs : List ℕ) (fs : List Float) (c t : Vec2) (w : Float) where
   pub conic_line : straight c t w ≡ true → called b vs fs (LineTo t) ≡ called b vs fs (ConicTo c t w)
@@ -150,12 +115,28 @@ module _ (b : PathBuilder) (vs : List ℕ) (fs : List Float) (c t : Vec2) (w : F
   unfolding called lays quads_laid
   conic_bend e = rw e
 
-  -- as its quads were laid
-  pub conic_called : (n q : ℕ) (a : Vec2) {r : Reply} {vs' : List ℕ} {fs' : List Float} → straight c t w ≡ false → a ≡ from b.started (pen_of b) →
-      Curved n q b.started b.verbs b.points vs fs a c t w vs' fs' → r ≡ replied_by n q b (drawn_by b q (2 * q) t) → outcome r vs' fs' ≡ called b vs fs (ConicTo c t w)
-  unfolding refusal
-  conic_called n q a s e l er =
-      laid_done (length (quads a c t w)) b vs fs (quads a c t w) n (length (quads a c t w)) (2 * length (quads a c t w)) t
-      refl (sym (quads_points a c t w)) (draws_quads t (quads a c t w) (quads_quads a c t w)) (l.drawn.number ∙ rw (quads_points a c t w)) l.drawn.stored (er ∙ quads_as n q (length (quads a c t w)) b t l.counted) l.counted
+  -- as its quads were laid from a, where it begins
+  pub conic_called : (a : Vec2) (r : Result ℕ Refusal) {vs' : List ℕ} {fs' : List Float} → straight c t w ≡ false → a ≡ from b.started (pen_of b) →
+      Laid r (length (quads a c t w)) (standing b) vs fs (opening b.started ++ quads a c t w) vs' fs' →
+      outcome (record { state = unless r b (steps b (opening b.started ++ quads a c t w)); quads = r }) vs' fs' ≡ called b vs fs (ConicTo c t w)
+  conic_called a r s e g =
+      answered b vs fs (opening b.started ++ quads a c t w) r (length (quads a c t w)) g
       ∙ ap (λ (x : Vec2). pushed (length (quads x c t w)) b vs fs (opening b.started ++ quads x c t w)) e
       ∙ conic_bend s
+
+started_on : (ss : List Segment) (at : Standing) → at.started ≡ true → (behind at ss).started ≡ true
+started_on [] at e = e
+started_on (s ∷ ss) at e = started_on ss (next at s) refl
+
+started : (t : Bool) (ss : List Segment) (at : Standing) → at.started ≡ t → (behind at (opening t ++ ss)).started ≡ true
+started true ss at e = started_on ss at e
+started false ss at e = started_on ss (next at (Move origin)) refl
+
+standing_as : (at : Standing) {v k : ℕ} → v ≡ at.verbs → k ≡ at.points → at.started ≡ true → record { verbs = v; points = k; started = true } ≡ at
+standing_as at e d f = rw (e, d, ← f)
+
+pub past_quads : (at : Standing) (c : Conic) {l q : ℕ} → l ≡ lead at.started → q ≡ length (quads_of c) →
+    record { verbs = at.verbs + (l + q); points = at.points + (l + 2 * q); started = true } ≡ behind at (opening at.started ++ quads_of c)
+past_quads at c e d =
+    let n = behind_counts (opening at.started ++ quads_of c) at in
+    standing_as (behind at (opening at.started ++ quads_of c)) (rw (e, d) (omega (arith, n.0, all_verbs at c))) (rw (e, d) (omega (arith, n.1, all_twice at c))) (started at.started (quads_of c) at refl)

@@ -1,4 +1,3 @@
-pub mod Laws
 pub mod Lays
 pub mod Kept
 pub mod Sound

@@ -1,21 +1,22 @@
--- A path that builder calls leave is met by none of 1, 4, 5 and 6.
+-- A path that builder calls leave is taken: it is met by none of 1, 4, 5 and 6.
 --     good     from a fresh builder over lent buffers of any length and content
 -- Assumes nothing.
 use mathlib.Core.Path.{◌≡◌, refl, sym, ap, ◌∙◌}
 use mathlib.Core.Bool.{Bool, true, false, true≢false}
 use mathlib.Core.List.{List, [], ◌∷◌, ◌++◌}
-use Prim.Native.Nat.{ℕ, zero, suc, ◌*◌, ◌/◌, ◌%◌, ◌≤◌}
+use Prim.Native.Nat.{ℕ, ◌*◌, ◌/◌, ◌%◌, ◌≤◌}
 use native.Mathlib.Omega.{arith}
 use lib.ListN.{length}
 use lib.Seq.{length-take-le}
 use lib.Ieee.{Float}
+use Rattle.std.specs.Prelude.{Ok}
 use Rattle.vec2.specs.declared.Vec2.{Vec2}
 use Rattle.vec2.specs.Points.{flat}
 use Rattle.vec2.proofs.Points.{length-flat}
 use Rattle.path.specs.declared.Segment.{Segment}
 use Rattle.path.specs.declared.Segment.TheVariants.{Move, Line, Quad, Cubic, Close}
 use Rattle.path.specs.Segment.{bytes_of, all_points}
-use Rattle.path.specs.Check.{max_verbs, max_points, used_by, any_over4, bad_first, bad_path}
+use Rattle.path.specs.Check.{max_verbs, max_points, used_by, any_over4, bad_first, check}
 use Rattle.path.proofs.Checks.{taken}
 use Rattle.path.proofs.Encoded.{length-bytes}
 use Rattle.builder.specs.declared.Call.{Call}
@@ -56,13 +57,13 @@ lays_begins false a CloseIt e = tt
 lays_begins false a (WithFillRule r) e = tt
 lays_begins false a (AsRoundedRect x r) e = tt
 
-feed_begins : (n : ℕ) (l : Laid) (c : Call) → Begins l.segs → Begins (feed n l c).segs
+feed_begins : (refused : Bool) (l : Laid) (c : Call) → Begins l.segs → Begins (feed refused l c).segs
 unfolding lay
-feed_begins zero l c h =
+feed_begins false l c h =
     rw (puts_segs (lays (some l.segs) l.pen c) l) (begins_append l.segs _ h (lays_begins (some l.segs) l.pen c))
-feed_begins (suc n) l c h = h
+feed_begins true l c h = h
 
-laid_begins : (cs : List Call) (rs : List ℕ) (l : Laid) → Begins l.segs → Begins (laid_from l cs rs).segs
+laid_begins : (cs : List Call) (rs : List Bool) (l : Laid) → Begins l.segs → Begins (laid_from l cs rs).segs
 unfolding laid_from
 laid_begins [] rs l h = h
 laid_begins (c ∷ cs) [] l h = h
@@ -99,11 +100,16 @@ used_all (Close ∷ ss) = omega (arith, used_all ss)
 half_flat : (ps : List Vec2) → length (flat ps) / 2 ≡ length ps
 half_flat ps = omega (arith, length-flat ps)
 
-code_good : (ss : List Segment) → Begins ss → length ss ≤ max_verbs → length (all_points ss) ≤ max_points → bad_path (bytes_of ss) (flat (all_points ss)) ≡ 0
+code_good : (ss : List Segment) → Begins ss → length ss ≤ max_verbs → length (all_points ss) ≤ max_points → check (bytes_of ss) (flat (all_points ss)) ≡ Ok tt
 code_good ss h v p =
-    sym
-    (taken (bytes_of ss) (flat (all_points ss)) (λ (e : length (flat (all_points ss)) % 2 ≡ 1). omega (arith, length-flat (all_points ss)))
-    (omega (arith, length-bytes ss)) (omega (arith, half_flat (all_points ss))) (none_over_4 ss) (good_first ss h) (used_all ss ∙ sym (half_flat (all_points ss))))
+    taken (bytes_of ss) (flat (all_points ss)) (λ (e : length (flat (all_points ss)) % 2 ≡ 1). omega (arith, length-flat (all_points ss)))
+    (record {
+      few = omega (arith, length-bytes ss);
+      room = omega (arith, half_flat (all_points ss));
+      known = none_over_4 ss;
+      first = good_first ss h;
+      used = used_all ss ∙ sym (half_flat (all_points ss));
+    })
 
 -- the counts are those of the laid list
 verbs_laid : (b : Built) (l : Laid) → Inv b l → length l.segs ≡ b.state.verbs
@@ -115,7 +121,7 @@ points_laid b l i =
     = ap length (sym i.points) ∙ length-take-le (2 * b.state.points) b.floats i.fit_points in
     omega (arith, length-flat (all_points l.segs))
 
-pub good : (cs : List Call) (bs : List ℕ) (fs : List Float) → bad_path (path_verbs (run (fresh_over bs fs) cs)) (path_floats (run (fresh_over bs fs) cs)) ≡ 0
+pub good : (cs : List Call) (bs : List ℕ) (fs : List Float) → check (path_verbs (run (fresh_over bs fs) cs)) (path_floats (run (fresh_over bs fs) cs)) ≡ Ok tt
 good cs bs fs =
     let b : Built = run (fresh_over bs fs) cs in
     let l : Laid = laid_from nothing cs (refusals (fresh_over bs fs) cs) in

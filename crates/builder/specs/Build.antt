@@ -1,5 +1,6 @@
 -- The builder: its state, and what each call answers and leaves in the two lent buffers ("Builder" and "Numbers" of the scope). Definitions only.
-use Rattle.std.specs.Prelude.{ℕ, ◌+◌, ◌*◌, Bool, true, false, ◌&&◌, cond, List, [], ◌∷◌, length, Float}
+use Rattle.std.specs.Prelude.{ℕ, map, ◌+◌, ◌*◌, Bool, true, false, ◌&&◌, cond, List, [], ◌∷◌, length, Float, Option, Some, None, Result, Ok}
+use Rattle.std.specs.Result.{result_and, is_err}
 use Rattle.std.proofs.lemmas.List.Edits.{sets}
 use Rattle.float.specs.Arith.{f0}
 use Rattle.float.specs.Small.{is_finite, maximum}
@@ -13,15 +14,14 @@ use Rattle.path.specs.declared.FillRule.TheVariants.{NonZero}
 use Rattle.path.specs.Segment.{bytes_of, all_points}
 use Rattle.halves.specs.Conic.{straight, quads}
 use Rattle.store.specs.Refusal.{refusal_of}
-use Rattle.store.specs.Store.{unless}
+use Rattle.path.specs.declared.Refusal.{Refusal}
+use Rattle.path.specs.Refusal.{unless}
+use Rattle.store.specs.declared.Standing.{Standing}
 use Rattle.builder.specs.declared.PathBuilder.{PathBuilder}
 use Rattle.builder.specs.declared.Reply.{Reply}
 use Rattle.builder.specs.declared.Call.{Call}
 use Rattle.builder.specs.declared.Call.TheVariants.{MoveTo, LineTo, QuadTo, ConicTo, CubicTo, Close as CloseIt, WithFillRule, AsRoundedRect}
-use Rattle.builder.specs.declared.CurrentPoint.{CurrentPoint}
-use Rattle.builder.specs.declared.CurrentPoint.TheVariants.{At, Nowhere}
-use Rattle.builder.specs.declared.Note.{Note}
-use Rattle.builder.specs.declared.Note.TheVariants.{Rounded, Unknown}
+use Rattle.builder.specs.declared.RoundedRect.{RoundedRect}
 use Rattle.builder.specs.Call.{from, lays}
 
 -- ---- the state
@@ -52,6 +52,10 @@ start_of b = vec b.start_x b.start_y
 
 abbrev pub pen_of : PathBuilder → Vec2
 pen_of b = vec b.pen_x b.pen_y
+
+-- where it stands in its buffers
+abbrev pub standing : PathBuilder → Standing
+standing b = record { verbs = b.verbs; points = b.points; started = b.started }
 
 -- v verbs and k points more, the latest move's point at a and the pen at p
 abbrev pub moved : PathBuilder → ℕ → ℕ → Vec2 → Vec2 → PathBuilder
@@ -138,11 +142,14 @@ set_by b (AsRoundedRect x r) = cond (finite_box x.min x.max r) (noted_as b true 
 
 -- ---- questions
 
-abbrev pub current_of : PathBuilder → CurrentPoint
-current_of b = cond b.started (At b.pen_x b.pen_y) Nowhere
+abbrev pub current_of : PathBuilder → Option Vec2
+current_of b = cond b.started (Some (pen_of b)) None
 
-abbrev pub note_of : PathBuilder → Note
-note_of b = cond b.noted (Rounded (record { min = vec b.min_x b.min_y; max = vec b.max_x b.max_y }) b.radius) Unknown
+abbrev pub noted_rect : PathBuilder → RoundedRect
+noted_rect b = record { rect = record { min = vec b.min_x b.min_y; max = vec b.max_x b.max_y }; radius = b.radius }
+
+abbrev pub note_of : PathBuilder → Option RoundedRect
+note_of b = cond b.noted (Some (noted_rect b)) None
 
 -- ---- refusals
 
@@ -157,9 +164,9 @@ buffered CloseIt = true
 buffered (WithFillRule r) = false
 buffered (AsRoundedRect x r) = false
 
--- the number that a call of v verbs and k points is refused with, or 0
-unfoldable pub refusal : PathBuilder → ℕ → ℕ → ℕ → ℕ → ℕ
-refusal b nv nf v k = refusal_of b.verbs b.points b.started nv nf v k
+-- whether a call of v verbs and k points is refused, in buffers of nv bytes and nf floats
+unfoldable pub refusal : PathBuilder → ℕ → ℕ → ℕ → ℕ → Result Unit Refusal
+refusal b nv nf v k = refusal_of (standing b) nv nf v k
 
 -- ---- a call
 
@@ -172,13 +179,13 @@ pub record Outcome : Type 0 where
 abbrev pub outcome : Reply → List ℕ → List Float → Outcome
 outcome r vs fs = record { reply = r; bytes = vs; floats = fs }
 
--- the segments ss behind those that stand, whole, unless n refuses; q is the number of quads
-abbrev pub pushed_by : ℕ → ℕ → PathBuilder → List ℕ → List Float → List Segment → Outcome
-pushed_by n q b vs fs ss =
+-- the segments ss behind those that stand, whole, unless r refuses; q is the number of quads
+abbrev pub pushed_by : Result Unit Refusal → ℕ → PathBuilder → List ℕ → List Float → List Segment → Outcome
+pushed_by r q b vs fs ss =
     record {
-      reply = record { state = unless n b (steps b ss); quads = unless n 0 q; refused = n };
-      bytes = unless n vs (sets vs b.verbs (bytes_of ss));
-      floats = unless n fs (sets fs (2 * b.points) (flat (all_points ss)));
+      reply = record { state = unless r b (steps b ss); quads = result_and r (Ok q) };
+      bytes = unless r vs (sets vs b.verbs (bytes_of ss));
+      floats = unless r fs (sets fs (2 * b.points) (flat (all_points ss)));
     }
 
 unfoldable pub pushed : ℕ → PathBuilder → List ℕ → List Float → List Segment → Outcome
@@ -201,7 +208,7 @@ quads_laid b (AsRoundedRect x r) = 0
 
 -- a call that refuses nothing
 abbrev pub settled : PathBuilder → Reply
-settled b = record { state = b; quads = 0; refused = 0 }
+settled b = record { state = b; quads = Ok 0 }
 
 -- every call: its entire reply and both buffers; the fill rule and the note take no buffer and refuse nothing
 unfoldable pub called : PathBuilder → List ℕ → List Float → Call → Outcome
@@ -225,10 +232,14 @@ unfoldable pub run : Built → List Call → Built
 run b [] = b
 run b (c ∷ cs) = run (left_by (call b c)) cs
 
--- the number that each was refused with
-unfoldable pub refusals : Built → List Call → List ℕ
-refusals b [] = []
-refusals b (c ∷ cs) = (call b c).reply.refused ∷ refusals (left_by (call b c)) cs
+-- what each was answered: how many quads, or why it was refused
+unfoldable pub answers : Built → List Call → List (Result ℕ Refusal)
+answers b [] = []
+answers b (c ∷ cs) = (call b c).reply.quads ∷ answers (left_by (call b c)) cs
+
+-- whether each was refused
+abbrev pub refusals : Built → List Call → List Bool
+refusals b cs = map is_err (answers b cs)
 
 -- a fresh builder over lent buffers of any length and content
 abbrev pub fresh_over : List ℕ → List Float → Built

@@ -1,6 +1,6 @@
 -- The laid list ("Laid list" of the scope). It is fed each call's arguments and whether the call was refused, and reads nothing of the builder's state.
 -- Definitions only.
-use Rattle.std.specs.Prelude.{ℕ, zero, suc, ◌*◌, Bool, true, false, List, [], ◌∷◌, ◌++◌, take, Float}
+use Rattle.std.specs.Prelude.{ℕ, ◌*◌, Bool, true, false, List, [], ◌∷◌, ◌++◌, take, Float}
 use Rattle.vec2.specs.declared.Vec2.{Vec2}
 use Rattle.vec2.specs.Vec2.{origin}
 use Rattle.path.specs.declared.Segment.{Segment}
@@ -36,18 +36,18 @@ some (s ∷ ss) = true
 unfoldable pub lay : Laid → Call → Laid
 lay l c = puts l (lays (some l.segs) l.pen c)
 
--- 0 is no refusal; a refused call lays nothing
-abbrev pub feed : ℕ → Laid → Call → Laid
-feed zero l c = lay l c
-feed (suc n) l c = l
+-- a refused call lays nothing
+abbrev pub feed : Bool → Laid → Call → Laid
+feed false l c = lay l c
+feed true l c = l
 
--- the calls, with the number that each was refused with
-unfoldable pub laid_from : Laid → List Call → List ℕ → Laid
+-- the calls, with whether each was refused
+unfoldable pub laid_from : Laid → List Call → List Bool → Laid
 laid_from l [] rs = l
 laid_from l (c ∷ cs) [] = l
 laid_from l (c ∷ cs) (r ∷ rs) = laid_from (feed r l c) cs rs
 
-abbrev pub laid : List Call → List ℕ → List Segment
+abbrev pub laid : List Call → List Bool → List Segment
 laid cs rs = (laid_from nothing cs rs).segs
 
 -- what a list of calls lays, from a fresh builder over lent buffers of any length and content

@@ -1,17 +1,32 @@
--- What the builder's own functions promise each other: the state behind drawn verbs, and the reply. Definitions only.
-use Rattle.std.specs.Prelude.{ℕ, ◌+◌}
+-- What the builder's own functions promise each other: the state behind what was laid, and the reply. Definitions only.
+use Rattle.std.specs.Prelude.{Result, Ok, Err}
 use Rattle.vec2.specs.declared.Vec2.{Vec2}
-use Rattle.store.specs.Store.{unless}
+use Rattle.path.specs.declared.Refusal.{Refusal}
+use Rattle.store.specs.declared.Standing.{Standing}
 use Rattle.builder.specs.declared.PathBuilder.{PathBuilder}
 use Rattle.builder.specs.declared.Reply.{Reply}
-use Rattle.drawing.specs.Lay.{lead}
-use Rattle.builder.specs.Call.{from}
-use Rattle.builder.specs.Build.{start_of, moved}
 
--- the state behind drawn verbs with v verbs and k points that end at p
-abbrev pub drawn_by : PathBuilder → ℕ → ℕ → Vec2 → PathBuilder
-drawn_by b v k p = moved b (lead b.started + v) (lead b.started + k) (from b.started (start_of b)) p
+-- the state that stands at `at`, with the latest move's point at a and the pen at p
+abbrev pub moved_to : PathBuilder → Standing → Vec2 → Vec2 → PathBuilder
+moved_to b at a p =
+    record {
+      verbs = at.verbs;
+      points = at.points;
+      start_x = a.x;
+      start_y = a.y;
+      pen_x = p.x;
+      pen_y = p.y;
+      min_x = b.min_x;
+      min_y = b.min_y;
+      max_x = b.max_x;
+      max_y = b.max_y;
+      radius = b.radius;
+      fill_rule = b.fill_rule;
+      noted = b.noted;
+      started = at.started;
+    }
 
--- the reply that leaves the state s, unless n refuses
-abbrev pub replied_by : ℕ → ℕ → PathBuilder → PathBuilder → Reply
-replied_by n q b s = record { state = unless n b s; quads = q; refused = n }
+-- the reply that leaves this state, unless r refuses
+abbrev pub replied_by : Result Standing Refusal → PathBuilder → Vec2 → Vec2 → Reply
+replied_by (Ok at) b a p = record { state = moved_to b at a p; quads = Ok 0 }
+replied_by (Err e) b a p = record { state = b; quads = Err e }

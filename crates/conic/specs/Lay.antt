@@ -7,7 +7,8 @@ use Rattle.float.specs.Arith.{f0}
 use Rattle.vec2.specs.Points.{flat}
 use Rattle.path.specs.declared.Segment.{Segment}
 use Rattle.path.specs.Segment.{bytes_of, all_points}
-use Rattle.halves.specs.Conic.{half_weight}
+use Rattle.halves.specs.Conic.{half_weight, quads}
+use Rattle.conic.specs.declared.Conic.{Conic}
 
 -- Of the k levels below weight w: where ws has a weight above 0 at k − 1, it is that of w's halves, and so on down.
 abbrev pub Levels : ℕ → Float → List Float → Type 0
@@ -18,6 +19,9 @@ Levels (suc k) w ws = (lt f0 (get_or ws k nan) ≡ true → get_or ws k nan ≡ 
 pub record KeptLevels (k : ℕ) (w : Float) (ws ws' : List Float) : Type 0 where
   pub below : Levels k w ws'
   pub above : drop k ws' ≡ drop k ws
+
+abbrev pub quads_of : Conic → List Segment
+quads_of c = quads c.from c.ctrl c.to c.weight
 
 -- the points of the quads have been stored from f on, and r is the number of quads
 pub record Put (qs : List Segment) (r : ℕ) (fs : List Float) (f : ℕ) (fs' : List Float) : Type 0 where

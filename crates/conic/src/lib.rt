@@ -3,13 +3,22 @@
 
 ghost use Rattle.std.specs.Prelude.{◌≡◌, [], ◌∷◌, ◌+◌, ◌*◌, ◌^◌, ◌≤◌, length, replicate, take};
 ghost use Rattle.std.proofs.lemmas.List.Edits.{sets};
-ghost use Rattle.halves.specs.Conic.{most_quads, half_weight, quads};
+ghost use Rattle.halves.specs.Conic.{most_quads, half_weight};
 ghost use Rattle.halves.specs.Halves.{ctrl_of, to_of, pieces};
-ghost use Rattle.conic.specs.Lay.{Levels, KeptLevels, Put, Bent};
+ghost use Rattle.conic.specs.Lay.{Levels, KeptLevels, quads_of, Put, Bent};
 ghost use Rattle.path.specs.declared.Segment.TheVariants.{Quad};
 
 use splitting::{ctrl_of, half_of, is_quad, left_half, right_half, split_weight, to_of};
 use vec2::Vec2;
+
+// A conic: from a point, by a control point of some weight, to a point.
+#[derive(Clone, Copy)]
+pub struct Conic {
+    pub from: Vec2,
+    pub ctrl: Vec2,
+    pub to: Vec2,
+    pub weight: f32,
+}
 
 // How often a conic is split at most.
 const DEPTH: usize = 6;
@@ -32,15 +41,14 @@ const QUARTER_LEVELS: [f32; 6] = [0.0, 0.0, 0.99879545, 0.9951847, 0.9807853, 0.
 fn known_levels(weight: f32) -> [f32; 6]
     ensures { Levels 6 weight result }
 {
-    if weight > 0.0 {
-        if f32::to_bits(weight) == QUARTER {
-            return QUARTER_LEVELS;
-        }
+    if weight > 0.0 && f32::to_bits(weight) == QUARTER {
+        return QUARTER_LEVELS;
     }
-    [0.0f32; 6]
+    [0.0; 6]
 }
 
 // The weight of the halves of a half that may be split k times more. It is kept for the other halves of its level.
+#[tactic(auto, using(crate::proofs::Levels::levels_first, crate::proofs::Levels::kept_none, crate::proofs::Levels::kept_one))]
 fn level_weight(weight: f32, levels: &mut [f32; 6], k: usize) -> f32
     requires { (1 ≤ k) × (k ≤ 6) × Levels k weight levels.old }
     ensures { (result ≡ half_weight weight) × KeptLevels k weight levels.old levels.new }
@@ -54,60 +62,53 @@ fn level_weight(weight: f32, levels: &mut [f32; 6], k: usize) -> f32
     u
 }
 
-// ---- quads in the buffers
+// ---- quads in the buffers: n of them are n verbs, 2 · n points and 4 · n floats
 
-// Lays the points of a half's quad from f on.
-fn put_quad(h: [[f32; 2]; 3], floats: &mut [f32], f: usize) -> usize
-    requires { f + 4 ≤ length floats.old }
-    ensures { Put (Quad (ctrl_of h) (to_of h) ∷ []) result floats.old f floats.new }
+const QUAD: u8 = 2;
+
+// Lays the points of a half's quad from point p on.
+fn put_quad(h: [[f32; 2]; 3], points: &mut [f32], p: usize) -> usize
+    requires { 2 * p + 4 ≤ length points.old }
+    ensures { Put (Quad (ctrl_of h) (to_of h) ∷ []) result points.old (2 * p) points.new }
 {
-    let ctrl = ctrl_of(h);
-    let to = to_of(h);
-    floats[f] = ctrl.x;
-    floats[f + 1] = ctrl.y;
-    floats[f + 2] = to.x;
-    floats[f + 3] = to.y;
+    vec2::put(points, p, ctrl_of(h));
+    vec2::put(points, p + 1, to_of(h));
     1
 }
 
 // Lays the points of a half that may be split k times more, and says how many quads they are. Room is asked for by the depth alone: no rounding changes it.
+#[tactic(auto, using(halves::proofs::Pieces::split_more, halves::proofs::Pieces::pieces_most, halves::proofs::Pieces::most_twice, halves::proofs::Pieces::most_few, crate::proofs::Levels::levels_next))]
 fn push_half(
     h: [[f32; 2]; 3],
     weight: f32,
     levels: &mut [f32; 6],
     k: usize,
-    floats: &mut [f32],
-    f: usize,
+    points: &mut [f32],
+    p: usize,
 ) -> usize
-    requires { (k ≤ 6) × (f + 4 * 2 ^ k ≤ length floats.old) × Levels k weight levels.old }
-    ensures { Put (pieces k h weight) result floats.old f floats.new × KeptLevels k weight levels.old levels.new }
+    requires { (k ≤ 6) × (2 * p + 4 * 2 ^ k ≤ length points.old) × Levels k weight levels.old }
+    ensures { Put (pieces k h weight) result points.old (2 * p) points.new × KeptLevels k weight levels.old levels.new }
 {
     if is_quad(h, weight, k) {
-        return put_quad(h, floats, f);
+        return put_quad(h, points, p);
     }
     let left = left_half(h, weight);
     let right = right_half(h, weight);
     let u = level_weight(weight, levels, k);
-    let l = push_half(left, u, levels, k - 1, floats, f);
-    let r = push_half(right, u, levels, k - 1, floats, f + 4 * l);
+    let l = push_half(left, u, levels, k - 1, points, p);
+    let r = push_half(right, u, levels, k - 1, points, p + 2 * l);
     l + r
 }
 
-// Lays the points of a conic's quads from f on, and says how many quads they are.
-pub fn push_points(
-    from: Vec2,
-    ctrl: Vec2,
-    to: Vec2,
-    weight: f32,
-    floats: &mut [f32],
-    f: usize,
-) -> usize
-    requires { f + 4 * most_quads ≤ length floats.old }
-    ensures { Put (quads from ctrl to weight) result floats.old f floats.new }
+// Lays the points of a conic's quads from point p on, and says how many quads they are.
+#[tactic(auto, using(halves::proofs::Pieces::pieces_quads))]
+pub fn push_points(c: Conic, points: &mut [f32], p: usize) -> usize
+    requires { 2 * p + 4 * most_quads ≤ length points.old }
+    ensures { Put (quads_of c) result points.old (2 * p) points.new }
 {
-    let mut levels = known_levels(weight);
-    let h = half_of(from, ctrl, to);
-    push_half(h, weight, &mut levels, DEPTH, floats, f)
+    let mut levels = known_levels(c.weight);
+    let h = half_of(c.from, c.ctrl, c.to);
+    push_half(h, c.weight, &mut levels, DEPTH, points, p)
 }
 
 // Lays n verbs of quads from v on.
@@ -115,49 +116,26 @@ fn put_verbs(verbs: &mut [u8], v: usize, n: usize)
     requires { v + n ≤ length verbs.old }
     ensures { verbs.new ≡ sets verbs.old v (replicate n 2) }
 {
-    let mut i = 0;
-    while i < n {
-        verbs[v + i] = 2;
-        i += 1;
-    }
+    verbs[v..v + n].fill(QUAD);
 }
 
-// Lays the first n of some floats from f on.
-fn put_floats(from: &[f32], n: usize, floats: &mut [f32], f: usize)
-    requires { (n ≤ length from.now) × (f + n ≤ length floats.old) }
-    ensures { floats.new ≡ sets floats.old f (take n from.now) }
+// Lays the quads of a conic where 64 have room, from verb v and point p on, and says how many they are.
+#[tactic(auto, using(halves::proofs::Laws::quads_most, halves::proofs::Laws::quads_bytes))]
+pub fn push_conic(c: Conic, verbs: &mut [u8], v: usize, points: &mut [f32], p: usize) -> usize
+    requires { (v + most_quads ≤ length verbs.old) × (2 * p + 4 * most_quads ≤ length points.old) }
+    ensures { Bent (quads_of c) result verbs.old v verbs.new points.old (2 * p) points.new }
 {
-    let mut i = 0;
-    while i < n {
-        floats[f + i] = from[i];
-        i += 1;
-    }
-}
-
-// Lays the quads of a conic where 64 have room, verbs from v on and floats from f on, and says how many they are.
-pub fn push_conic(
-    from: Vec2,
-    ctrl: Vec2,
-    to: Vec2,
-    weight: f32,
-    verbs: &mut [u8],
-    v: usize,
-    floats: &mut [f32],
-    f: usize,
-) -> usize
-    requires { (v + most_quads ≤ length verbs.old) × (f + 4 * most_quads ≤ length floats.old) }
-    ensures { Bent (quads from ctrl to weight) result verbs.old v verbs.new floats.old f floats.new }
-{
-    let n = push_points(from, ctrl, to, weight, floats, f);
+    let n = push_points(c, points, p);
     put_verbs(verbs, v, n);
     n
 }
 
-// Lays n quads whose points stand apart, verbs from v on and floats from f on.
-pub fn put_quads(points: &[f32], n: usize, verbs: &mut [u8], v: usize, floats: &mut [f32], f: usize)
-    requires { (4 * n ≤ length points.now) × (v + n ≤ length verbs.old) × (f + 4 * n ≤ length floats.old) }
-    ensures { (verbs.new ≡ sets verbs.old v (replicate n 2)) × (floats.new ≡ sets floats.old f (take (4 * n) points.now)) }
+// Lays n quads whose points stand apart, from verb v and point p on.
+#[tactic(auto, using(crate::proofs::Stores::part_set))]
+pub fn put_quads(apart: &[f32], n: usize, verbs: &mut [u8], v: usize, points: &mut [f32], p: usize)
+    requires { (4 * n ≤ length apart.now) × (v + n ≤ length verbs.old) × (2 * p + 4 * n ≤ length points.old) }
+    ensures { (verbs.new ≡ sets verbs.old v (replicate n 2)) × (points.new ≡ sets points.old (2 * p) (take (4 * n) apart.now)) }
 {
     put_verbs(verbs, v, n);
-    put_floats(points, 4 * n, floats, f);
+    points[2 * p..2 * p + 4 * n].copy_from_slice(&apart[..4 * n]);
 }

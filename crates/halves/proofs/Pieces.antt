@@ -1,5 +1,5 @@
 -- Laws of a half's quads that the recursion cites.
---     single_end, single_weight, single_mid     the three tests of one quad
+--     single_by                  the three tests of one quad
 --     pieces_one, pieces_two     a half that is one quad; a half that is split
 --     split_more                 one that is split may be split
 --     pieces_most, most_twice    at most 2 ^ k quads, and that is two halves'; most_few: at most 64
@@ -7,12 +7,14 @@
 --     pieces_floats              a quad has four floats
 -- Assumes nothing.
 use mathlib.Core.Path.{◌≡◌, refl}
-use mathlib.Core.Bool.{Bool, true, false}
+use mathlib.Core.Bool.{Bool, true, false, ◌||◌}
 use mathlib.Core.List.{[], ◌∷◌, ◌++◌}
 use Prim.Native.Nat.{ℕ, zero, suc, ◌+◌, ◌*◌, ◌-◌, ◌^◌, ◌≤◌}
 use native.Mathlib.Nat.{pow-suc}
 use native.Mathlib.Omega.{arith}
 use lib.Pow.{pow_mono}
+use lib.Dec.{eqb}
+use borrow.Author.Tests.{ne_eqb}
 use lib.ListN.{length}
 use lib.Ieee.{Float}
 use Rattle.vec2.specs.declared.Vec2.{Vec2}
@@ -26,19 +28,10 @@ use Rattle.halves.proofs.Laws.{split_most, split_points}
 
 -- ---- whether a half is one quad
 
-pub single_end : (k : ℕ) (h : Half) (w : Float) → k ≡ 0 → true ≡ single k h w
-single_end zero h w e = refl
-single_end (suc k) h w e = absurd (omega (arith, e))
-
-pub single_weight : (k : ℕ) (h : Half) (w : Float) → near_one w ≡ true → true ≡ single k h w
+pub single_by : (k : ℕ) (h : Half) (w : Float) → single k h w ≡ (eqb k 0 || (near_one w || near_mid (from_of h) (ctrl_of h) (to_of h) w))
 unfolding near
-single_weight zero h w e = refl
-single_weight (suc k) h w e = rw e
-
-pub single_mid : (k : ℕ) (h : Half) (w : Float) {r : Bool} → (k ≡ 0 → ⊥) → near_one w ≡ false → r ≡ near_mid (from_of h) (ctrl_of h) (to_of h) w → r ≡ single k h w
-unfolding near
-single_mid zero h w nz n e = absurd (nz refl)
-single_mid (suc k) h w nz n e = rw n e
+single_by zero h w = refl
+single_by (suc k) h w = rw (ne_eqb (suc k) 0 (λ (e : suc k ≡ 0). omega (arith, e)))
 
 pub split_more : (k : ℕ) (h : Half) (w : Float) → single k h w ≡ false → 1 ≤ k
 split_more zero h w e = let z : ◌≡◌ {A = ℕ} 0 1 = cc in omega arith

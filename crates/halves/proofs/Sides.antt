@@ -1,5 +1,5 @@
--- The absolute value of d is at most 0.001 exactly where −0.001 <= d <= 0.001, and never for a NaN (`within_both`, `over_one`). Assumes nothing.
-use mathlib.Core.Path.{◌≡◌, refl, sym, ap, ◌∙◌}
+-- The absolute value of d is at most 0.001 exactly where −0.001 <= d <= 0.001, and never for a NaN (`near_sides`). Assumes nothing.
+use mathlib.Core.Path.{◌≡◌, refl, sym}
 use mathlib.Core.Bool.{Bool, true, false, ◌&&◌, ◌||◌}
 use Prim.Native.Nat.{ℕ, zero, suc, ◌+◌, ◌*◌}
 use native.Mathlib.Omega.{arith}
@@ -8,7 +8,8 @@ use lib.Dec.{ltb, eqb}
 use lib.Ieee.{Float, nan, inf, fin, up, down, lt, le, eq, neg, of_bits}
 use borrow.Author.Tests.{lt-ltb, eq-eqb, ne_eqb, eqb-true, eqb-false}
 use Rattle.float.specs.Small.{abs}
-use Rattle.halves.specs.Conic.{thousandth}
+use Rattle.float.specs.Arith.{minus, f1}
+use Rattle.halves.specs.Conic.{thousandth, near_one}
 
 -- −a is at most b
 below_zero : (a b : ℕ) → (ltb 0 (a + b) || (eqb a b && eqb a 0)) ≡ true
@@ -44,8 +45,7 @@ thousandth_is = refl
 sides : (d : Float) → le (abs d) thousandth ≡ (le d thousandth && le (neg thousandth) d)
 sides d = rw thousandth_is (both 8589935 (negsuc 32) d)
 
-pub within_both : (d : Float) → le d thousandth ≡ true → le (neg thousandth) d ≡ le (abs d) thousandth
-within_both d h = sym (sides d ∙ ap (λ (b : Bool). b && le (neg thousandth) d) h)
-
-pub over_one : (d : Float) → le d thousandth ≡ false → false ≡ le (abs d) thousandth
-over_one d h = sym (sides d ∙ ap (λ (b : Bool). b && le (neg thousandth) d) h)
+-- by two tests, as code has them
+pub near_sides : (w : Float) → near_one w ≡ (le (minus w f1) thousandth && le (neg thousandth) (minus w f1))
+unfolding near_one
+near_sides w = sides (minus w f1)

@@ -8,7 +8,7 @@ use vec2::Vec2;
 
 // A box from one corner to the other.
 #[repr(C)]
-#[derive(Clone, Copy)]
+#[derive(Clone, Copy, PartialEq)]
 pub struct Rect {
     pub min: Vec2,
     pub max: Vec2,

@@ -10,19 +10,11 @@ ghost use Rattle.halves.specs.Halves.{from_of, ctrl_of, to_of, half_of, left_hal
 use vec2::Vec2;
 
 // Whether a conic is no curve, and gives one line to its end.
+#[tactic(auto, unfolding(halves::specs::Conic::straight))]
 pub fn is_straight(ctrl: Vec2, to: Vec2, weight: f32) -> bool
     ensures { result ≡ straight ctrl to weight }
 {
-    if !float::is_finite(weight) {
-        return true;
-    }
-    if weight <= 0.0 {
-        return true;
-    }
-    if !ctrl.is_finite() {
-        return true;
-    }
-    !to.is_finite()
+    !float::is_finite(weight) || weight <= 0.0 || !ctrl.is_finite() || !to.is_finite()
 }
 
 // ---- halves: the control point first, so that no two points that were stored apart are loaded as one
@@ -36,50 +28,46 @@ pub fn half_of(from: Vec2, ctrl: Vec2, to: Vec2) -> [[f32; 2]; 3]
 fn from_of(h: [[f32; 2]; 3]) -> Vec2
     ensures { result ≡ from_of h }
 {
-    Vec2 {
-        x: h[1][0],
-        y: h[1][1],
-    }
+    let [_, [x, y], _] = h;
+    Vec2 { x, y }
 }
 
 pub fn ctrl_of(h: [[f32; 2]; 3]) -> Vec2
     ensures { result ≡ ctrl_of h }
 {
-    Vec2 {
-        x: h[0][0],
-        y: h[0][1],
-    }
+    let [[x, y], _, _] = h;
+    Vec2 { x, y }
 }
 
 pub fn to_of(h: [[f32; 2]; 3]) -> Vec2
     ensures { result ≡ to_of h }
 {
-    Vec2 {
-        x: h[2][0],
-        y: h[2][1],
-    }
+    let [_, _, [x, y]] = h;
+    Vec2 { x, y }
 }
 
+#[tactic(auto, unfolding(halves::specs::Conic::left_of))]
 fn left_ctrl(from: Vec2, ctrl: Vec2, weight: f32) -> Vec2
     ensures { result ≡ left_of from ctrl weight }
 {
-    from.add(ctrl.mul(weight)).mul(1.0 / (1.0 + weight))
+    (from + ctrl * weight) * (1.0 / (1.0 + weight))
 }
 
+#[tactic(auto, unfolding(halves::specs::Conic::right_of))]
 fn right_ctrl(ctrl: Vec2, to: Vec2, weight: f32) -> Vec2
     ensures { result ≡ right_of ctrl to weight }
 {
-    ctrl.mul(weight).add(to).mul(1.0 / (1.0 + weight))
+    (ctrl * weight + to) * (1.0 / (1.0 + weight))
 }
 
+#[tactic(auto, unfolding(halves::specs::Conic::middle))]
 fn mid(from: Vec2, ctrl: Vec2, to: Vec2, weight: f32) -> Vec2
     ensures { result ≡ middle from ctrl to weight }
 {
-    from.add(ctrl.mul(2.0 * weight))
-        .add(to)
-        .mul(0.5 * (1.0 / (1.0 + weight)))
+    (from + ctrl * (2.0 * weight) + to) * (0.5 * (1.0 / (1.0 + weight)))
 }
 
+#[tactic(auto, unfolding(halves::specs::Conic::half_weight))]
 pub fn split_weight(weight: f32) -> f32
     ensures { result ≡ half_weight weight }
 {
@@ -122,12 +110,9 @@ fn square_of(p: Vec2) -> f32
 fn mid_gap(from: Vec2, ctrl: Vec2, to: Vec2, weight: f32) -> Vec2
     ensures { result ≡ gap from ctrl to weight }
 {
-    let conic_mid = from
-        .add(ctrl.mul(2.0 * weight))
-        .add(to)
-        .div(2.0 * (1.0 + weight));
-    let quad_mid = from.add(ctrl.mul(2.0)).add(to).mul(0.25);
-    conic_mid.sub(quad_mid)
+    let conic_mid = (from + ctrl * (2.0 * weight) + to) / (2.0 * (1.0 + weight));
+    let quad_mid = (from + ctrl * 2.0 + to) * 0.25;
+    conic_mid - quad_mid
 }
 
 // Whether the root of gap is within 0.001 of the root of chord, and that is above 0.
@@ -135,10 +120,7 @@ fn is_within_by_roots(chord: f32, gap: f32) -> bool
     ensures { result ≡ within (square_root binary32 chord) (square_root binary32 gap) }
 {
     let length = root::sqrt(chord);
-    if length > 0.0 {
-        return root::sqrt(gap) <= 0.001 * length;
-    }
-    false
+    length > 0.0 && root::sqrt(gap) <= 0.001 * length
 }
 
 fn is_moderate(x: f32) -> bool
@@ -152,48 +134,40 @@ fn is_moderate(x: f32) -> bool
 fn is_within(chord: f32, gap: f32) -> bool
     ensures { result ≡ within (square_root binary32 chord) (square_root binary32 gap) }
 {
-    if 1e-30 <= gap {
-        if is_moderate(chord) {
-            if 0.000001005 * chord <= gap {
-                return false;
-            }
-            if gap <= 0.000000995 * chord {
-                return true;
-            }
+    if 1e-30 <= gap && is_moderate(chord) {
+        if 0.000001005 * chord <= gap {
+            return false;
+        }
+        if gap <= 0.000000995 * chord {
+            return true;
         }
     }
     is_within_by_roots(chord, gap)
 }
 
 // Whether a conic of this weight is a quad, wherever its points are. By two tests: an absolute value takes one more, for a NaN.
+#[tactic(auto, using(halves::proofs::Sides::near_sides))]
 fn is_near_one(weight: f32) -> bool
     ensures { result ≡ near_one weight }
 {
     let d = weight - 1.0;
-    if d <= 0.001 {
-        return -0.001 <= d;
-    }
-    false
+    d <= 0.001 && -0.001 <= d
 }
 
 // Whether the quad of the same points is near enough, by the midpoints.
+#[tactic(auto, unfolding(halves::specs::Conic::near_mid))]
 fn is_near(from: Vec2, ctrl: Vec2, to: Vec2, weight: f32) -> bool
     ensures { result ≡ near_mid from ctrl to weight }
 {
-    let chord = square_of(to.sub(from));
+    let chord = square_of(to - from);
     let gap = square_of(mid_gap(from, ctrl, to, weight));
     is_within(chord, gap)
 }
 
 // Whether a half that may be split k times more is one quad.
+#[tactic(auto, using(halves::proofs::Pieces::single_by))]
 pub fn is_quad(h: [[f32; 2]; 3], weight: f32, k: usize) -> bool
     ensures { result ≡ single k h weight }
 {
-    if k == 0 {
-        return true;
-    }
-    if is_near_one(weight) {
-        return true;
-    }
-    is_near(from_of(h), ctrl_of(h), to_of(h), weight)
+    k == 0 || is_near_one(weight) || is_near(from_of(h), ctrl_of(h), to_of(h), weight)
 }

@@ -1,7 +1,10 @@
--- The numbers that refuse a call of the builder ("Numbers" of the scope): from what stands, the buffers and what the call lays. Definitions only.
-use Rattle.std.specs.Prelude.{ℕ, ◌+◌, ◌*◌, ◌/◌, ◌%◌, ◌≤◌, min, Bool, not, ◌&&◌, ◌||◌, cond, ltb, eqb}
+-- What refuses a call of the builder ("Numbers" of the scope): from what stands, the buffers and what the call lays. Definitions only.
+use Rattle.std.specs.Prelude.{ℕ, ◌+◌, ◌*◌, ◌/◌, ◌%◌, ◌≤◌, min, Bool, not, ◌&&◌, ◌||◌, cond, ltb, eqb, Result, Ok, Err}
 use Rattle.std.specs.Bool.{beq}
 use Rattle.path.specs.Check.{max_verbs, max_points}
+use Rattle.path.specs.declared.Refusal.{Refusal}
+use Rattle.path.specs.declared.Refusal.TheVariants.{OddFloats, BuilderFull, BadState}
+use Rattle.store.specs.declared.Standing.{Standing}
 
 -- what buffers of nv bytes and of nf floats hold, inside the limits
 unfoldable pub verb_cap : ℕ → ℕ
@@ -10,27 +13,25 @@ verb_cap nv = min nv max_verbs
 unfoldable pub point_cap : ℕ → ℕ
 point_cap nf = min (nf / 2) max_points
 
--- ---- where v verbs and k points stand
-
 -- 7: counts over the buffers or limits, which hold nv verbs and nk points; "started" not equal to having a verb; started without a point
-unfoldable pub bad_state : ℕ → ℕ → Bool → ℕ → ℕ → Bool
-bad_state v k started nv nk =
-    ltb nv v
-    || (ltb nk k || (not (beq started (ltb 0 v)) || (started && eqb k 0)))
+unfoldable pub bad_state : Standing → ℕ → ℕ → Bool
+bad_state at nv nk =
+    ltb nv at.verbs
+    || (ltb nk at.points || (not (beq at.started (ltb 0 at.verbs)) || (at.started && eqb at.points 0)))
 
 -- 2: dv more verbs or dk more points than the buffers or limits have left
-unfoldable pub no_room : ℕ → ℕ → ℕ → ℕ → ℕ → ℕ → Bool
-no_room v k nv nk dv dk = ltb nv (v + dv) || ltb nk (k + dk)
+unfoldable pub no_room : Standing → ℕ → ℕ → ℕ → ℕ → Bool
+no_room at nv nk dv dk = ltb nv (at.verbs + dv) || ltb nk (at.points + dk)
 
--- the number that a call of dv verbs and dk points is refused with, or 0, in buffers of nv bytes and nf floats
-unfoldable pub refusal_of : ℕ → ℕ → Bool → ℕ → ℕ → ℕ → ℕ → ℕ
-refusal_of v k started nv nf dv dk =
-    cond (eqb (nf % 2) 1) 1
-    (cond (bad_state v k started (verb_cap nv) (point_cap nf)) 7 (cond (no_room v k (verb_cap nv) (point_cap nf) dv dk) 2 0))
+-- whether a call of dv verbs and dk points is taken, in buffers of nv bytes and nf floats: 1, 7 and 2, in this order
+unfoldable pub refusal_of : Standing → ℕ → ℕ → ℕ → ℕ → Result Unit Refusal
+refusal_of at nv nf dv dk =
+    cond (eqb (nf % 2) 1) (Err OddFloats)
+    (cond (bad_state at (verb_cap nv) (point_cap nf)) (Err BadState) (cond (no_room at (verb_cap nv) (point_cap nf) dv dk) (Err BuilderFull) (Ok tt)))
 
 -- dv more verbs and dk more points fit in buffers of nv bytes and nf floats, and inside the limits
-pub record Fits (v k nv nf dv dk : ℕ) : Type 0 where
-  pub verbs : v + dv ≤ nv
-  pub points : 2 * (k + dk) ≤ nf
-  pub few_verbs : v + dv ≤ max_verbs
-  pub few_points : k + dk ≤ max_points
+pub record Fits (at : Standing) (nv nf dv dk : ℕ) : Type 0 where
+  pub verbs : at.verbs + dv ≤ nv
+  pub points : 2 * (at.points + dk) ≤ nf
+  pub few_verbs : at.verbs + dv ≤ max_verbs
+  pub few_points : at.points + dk ≤ max_points

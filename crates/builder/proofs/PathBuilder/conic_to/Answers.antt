@@ -1,23 +1,38 @@
 -- `builder::PathBuilder::conic_to` meets its contract. Assumes nothing.
-use Rattle.bending.proofs.Laws.{curved_few, curved_fits}
-use Rattle.builder.proofs.Lays.{conic_line, conic_called}
 use mathlib.Core.Path.{sym, ◌∙◌}
 use native.Mathlib.Omega.{arith}
+use Rattle.std.specs.Prelude.{Ok, Err}
+use Rattle.halves.proofs.Laws.{quads_quads}
+use Rattle.bending.proofs.Laws.{curved_fits}
+use Rattle.builder.proofs.Lays.{draws_quads, opened, conic_line, conic_called, past_quads}
 use Rattle.builder.proofs.PathBuilder.conic_to.Goals as goal
 
 pub returns-then-is_straight : goal.returns-then-is_straight
 returns-then-is_straight c = c.line_to.ensures ∙ conic_line _ _ _ _ _ _ (sym c.is_straight.ensures ∙ c.if-is_straight.true)
 
+pub overflow_add-lead : goal.overflow_add-lead
+overflow_add-lead c = let f = curved_fits _ _ c.in-Ok.ensures in let l = c.lead_of-lead.ensures in omega (arith, l, f.1.few_verbs)
+
 pub overflow_mul-quads : goal.overflow_mul-quads
-overflow_mul-quads c = omega (arith, curved_few c.lay_conic-bend.ensures)
+overflow_mul-quads c = let f = curved_fits _ _ c.in-Ok.ensures in omega (arith, f.1.few_points)
 
-pub drawn-requires : goal.drawn-requires
-drawn-requires c =
-    let l = c.lay_conic-bend.ensures in
-    let m = curved_few l in
-    (omega (arith, m), omega (arith, m), λ e. let r = curved_fits l e in (omega (arith, r.few_verbs), omega (arith, r.few_points)))
+pub overflow_add-lead-in-Ok : goal.overflow_add-lead-in-Ok
+overflow_add-lead-in-Ok c = let f = curved_fits _ _ c.in-Ok.ensures in let l = c.lead_of-lead.ensures in omega (arith, l, f.1.few_points)
 
-pub returns : goal.returns
-returns c =
-    let l = c.lay_conic-bend.ensures in
-    conic_called _ _ _ _ _ _ _ _ _ (sym c.is_straight.ensures ∙ c.if-is_straight.false) c.pen-from.ensures l c.drawn.ensures
+pub past-next-requires : goal.past-next-requires
+past-next-requires c =
+    let f = curved_fits _ _ c.in-Ok.ensures in
+    let l = c.lead_of-lead.ensures in
+    (omega (arith, l, f.1.few_verbs), omega (arith, l, f.1.few_points))
+
+pub returns-in-Ok : goal.returns-in-Ok
+returns-in-Ok c =
+    let b = c.args.self in
+    let p = past_quads c.standing-at.result _ c.lead_of-lead.ensures (curved_fits _ _ c.in-Ok.ensures).0 in
+    rw (c.answer.ensures, c.moved.ensures, c.start.ensures, c.past-next.ensures ∙ p, c.standing-at.ensures, opened b.started b _ c.args.to (draws_quads c.args.to _ (quads_quads c.pen.result c.args.ctrl c.args.to c.args.weight)))
+    (conic_called b _ _ _ _ _ _ (Ok c.in-Ok.quads) (sym c.is_straight.ensures ∙ c.if-is_straight.false) c.pen.ensures (rw c.standing-at.ensures at c.in-Ok.ensures))
+
+pub returns-in-Err : goal.returns-in-Err
+returns-in-Err c =
+    rw c.answer-in-Err.ensures
+    (conic_called c.args.self _ _ _ _ _ _ (Err c.in-Err.r) (sym c.is_straight.ensures ∙ c.if-is_straight.false) c.pen.ensures (rw c.standing-at.ensures at c.in-Err.ensures))
