@@ -1,27 +1,16 @@
 -- The calls that are left behind so many kinds and numbers: none, or one and those behind it. Assumes nothing.
-use mathlib.Core.Path.{◌≡◌, sym, ap, ap₂, ◌∙◌}
+use mathlib.Core.Path.{◌≡◌}
 use mathlib.Core.Bool.{true, false}
 use mathlib.Core.List.{List, [], ◌∷◌}
-use Prim.Native.Nat.{ℕ, suc, ◌+◌, ◌-◌, ◌≤◌, ◌<◌}
+use Prim.Native.Nat.{ℕ, ◌+◌, ◌-◌, ◌≤◌, ◌<◌}
 use native.Mathlib.Numerals.{add-one}
 use native.Mathlib.Omega.{arith}
 use borrow.Author.Tests.{lt-ltb, le-ltb}
-use lib.ListN.{length, get_or, take, drop, length-drop, drop_of_length-le}
-use lib.Seq.{drop-cons, drop-drop, get_or-drop, take_all}
-use lib.Ieee.{Float, nan}
-use Rattle.vec2.specs.Vec2.{vec}
-use Rattle.replay.specs.Calls.{taken, point, call_of, ends, calls}
+use lib.ListN.{length, get_or, drop, length-drop, drop_of_length-le}
+use lib.Seq.{drop-cons, drop-drop}
+use lib.Ieee.{Float}
+use Rattle.replay.specs.Calls.{taken, call_of, ends, calls}
 use Rattle.replay.specs.Run.{calls_left}
-
--- the part from `at` to the end, as code has it
-pub rest_is : (fs : List Float) (at : ℕ) → take (length fs - at) (drop at fs) ≡ drop at fs
-rest_is fs at = take_all (length fs - at) (drop at fs) (omega (arith, length-drop at fs))
-
--- the point that begins at number j behind the first `at`, as code has it
-pub point_behind : (fs : List Float) (at j : ℕ) → vec (get_or fs (at + j) nan) (get_or fs (at + j + 1) nan) ≡ point (drop at fs) j
-point_behind fs at j =
-    let next : at + j + 1 ≡ at + suc j = omega arith in
-    ap₂ vec (sym (get_or-drop at fs j nan)) (ap (λ (i : ℕ). get_or fs i nan) next ∙ sym (get_or-drop at fs (suc j) nan))
 
 module _ (ks : List ℕ) (fs : List Float) (i at : ℕ) where
   abbrev kind : ℕ

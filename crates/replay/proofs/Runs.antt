@@ -1,40 +1,29 @@
 -- A run of calls of one kind, of whatever kind: where it stands before each turn, and where it ends.
---     begins, turned                  before the first turn; a turn
---     stays, onward                   nothing played; a run behind another
---     told_next, told_none            what the loop's test finds
---     run_over                        the end of a run; went_on and too_few, those of a single call; told_one, that of one without a buffer
---     over                            the whole list was played
+--     onward               a run behind another
+--     begins, no_call      before the first turn; a byte that is no kind
+--     turned, run_over     a turn; the end of a run
+--     went_on              a run that played some
+--     over                 the whole list was played
 -- Assumes nothing.
-use mathlib.Core.Path.{◌≡◌, refl, sym, ap, ap₂, subst, ◌∙◌}
+use mathlib.Core.Path.{◌≡◌, refl, sym, ap, subst, ◌∙◌}
 use mathlib.Core.Logic.{◌⊎◌, inl, inr}
-use mathlib.Core.Bool.{Bool, false, true≢false}
+use mathlib.Core.Bool.{Bool, true, false}
 use mathlib.Core.List.{List, []}
-use Prim.Native.Nat.{ℕ, ◌+◌, ◌-◌, ◌≤◌, ◌<◌}
-use native.Mathlib.Nat.{add-zero}
+use Prim.Native.Nat.{ℕ, ◌-◌, ◌≤◌, ◌<◌}
 use native.Mathlib.Omega.{arith}
-use borrow.Author.Tests.{leb-true, leb-false}
-use lib.Dec.{leb}
-use lib.ListN.{length, get_or, drop}
+use lib.ListN.{length, get_or, take, drop}
 use lib.Ieee.{Float}
 use Rattle.builder.specs.declared.PathBuilder.{PathBuilder}
 use Rattle.builder.specs.declared.Reply.{Reply}
-use Rattle.builder.specs.declared.Call.{Call}
 use Rattle.builder.specs.Build as build
-use Rattle.builder.specs.Build.{fresh, settled, set_by, called}
+use Rattle.builder.specs.Build.{fresh, called}
 use Rattle.replay.specs.Calls.{taken, call_of}
-use Rattle.replay.specs.Replay as replay
-use Rattle.replay.specs.Replay.{replayed}
+use Rattle.replay.specs.Replay.{played_to, replayed}
 use Rattle.replay.specs.declared.Run.{Run}
 use Rattle.replay.specs.Run.{standing, calls_left, played, behind, Next, Follows, Along, Ran}
 use Rattle.replay.proofs.Places.{no_kind, bad_kind, few_numbers, one_more}
-use Rattle.replay.proofs.Tables.{one_at_most, takes_no_buffer, told_called}
+use Rattle.replay.proofs.Tables.{one_at_most, its_own}
 use Rattle.replay.proofs.Turns.{played_whole, played_none, turn, call_kept}
-
-abbrev pub stood : PathBuilder → ℕ → ℕ → ℕ → Run
-stood b i at refused = record { calls = i; at = at; refused = refused; state = b }
-
-pub stays : {ks : List ℕ} {ns : List Float} (r : Run) {vs : List ℕ} {fs : List Float} → r.calls ≤ length ks → r.at ≤ length ns → r.refused ≤ r.calls → Along ks ns r vs fs r vs fs
-stays r i at h = record { calls = i; on = omega arith; at = at; refused = h; bytes = refl; floats = refl; made = refl }
 
 pub onward : {ks : List ℕ} {ns : List Float} {r q p : Run} {vs vs' vs'' : List ℕ} {fs fs' fs'' : List Float} →
     Along ks ns r vs fs q vs' fs' → Along ks ns q vs' fs' p vs'' fs'' → Along ks ns r vs fs p vs'' fs''
@@ -49,29 +38,38 @@ onward s t =
       made = t.made ∙ s.made;
     }
 
-module _ {k : ℕ} {ks : List ℕ} {ns : List Float} {r : Run} (n : Next k ks ns r) where
-  pub begins : (vs : List ℕ) (fs : List Float) → Along ks ns r vs fs r vs fs
-  begins vs fs = stays r (omega (arith, n.calls)) n.at n.refused
+module _ {k : ℕ} {ks : List ℕ} {ns : List Float} {r : Run} {vs : List ℕ} {fs : List Float} (n : Next k ks ns r) where
+  pub begins : Along ks ns r vs fs r vs fs
+  begins = record { calls = omega (arith, n.calls); on = omega arith; at = n.at; refused = n.refused; bytes = refl; floats = refl; made = refl }
 
   -- a byte that is no kind
-  pub no_call : 8 < k → calls_left ks ns r.calls r.at ≡ []
-  no_call h = bad_kind ks ns r.calls r.at n.calls (omega (arith, h, n.kind))
+  pub no_call : 8 < k → Ran ks ns r vs fs r vs fs
+  no_call h = record { along = begins; ended = λ e. bad_kind ks ns r.calls r.at n.calls (omega (arith, h, n.kind)) }
 
--- where the kind is right, the numbers decide; no call follows where it is not
-module _ {k i : ℕ} {ks : List ℕ} (ns : List Float) (n at : ℕ) where
-  pub told_next : i < length ks → get_or ks i 0 ≡ k → Follows k n ks i ns at (leb n (length ns - at))
-  told_next h e = record { on = λ t. (h, e, leb-true n (length ns - at) t); otherwise = λ t. inr (inr (h, e, leb-false n (length ns - at) t)) }
+-- some were played
+pub went_on : {ks : List ℕ} {ns : List Float} {r q : Run} {vs vs' : List ℕ} {fs fs' : List Float} → Along ks ns r vs fs q vs' fs' → r.calls < q.calls → Ran ks ns r vs fs q vs' fs'
+went_on s h = record { along = s; ended = λ e. absurd (omega (arith, e, h)) }
 
-  pub told_none : (length ks ≤ i) ⊎ (get_or ks i 0 ≡ k → ⊥) → Follows k n ks i ns at false
-  told_none (inl h) = record { on = λ t. absurd (true≢false (sym t)); otherwise = λ t. inl h }
-  told_none (inr h) = record { on = λ t. absurd (true≢false (sym t)); otherwise = λ t. inr (inl h) }
+-- calls of a kind k, which takes n numbers
+module _ {k n : ℕ} (good : k ≤ 8) (t : taken k ≡ n) {ks : List ℕ} {ns : List Float} {r q : Run} {vs vs' : List ℕ} {fs fs' : List Float}
+    (s : Along ks ns r vs fs q vs' fs') {b : Bool} (f : Follows k n ks q.calls ns q.at b) where
+  abbrev kind : ℕ
+  kind = get_or ks q.calls 0
 
-module _ {ks : List ℕ} {ns : List Float} {r q : Run} {vs vs' : List ℕ} {fs fs' : List Float} (s : Along ks ns r vs fs q vs' fs') where
-  pub turned : (k : ℕ) → k ≤ 8 → (q.calls < length ks) × (get_or ks q.calls 0 ≡ k) × (taken k ≤ length ns - q.at) →
-      (c : Call) (o : Reply) (p : Run) (vs'' : List ℕ) (fs'' : List Float) →
-      build.outcome o vs'' fs'' ≡ called q.state vs' fs' c → c ≡ call_of k (drop q.at ns) → p ≡ behind q o (taken k) → Along ks ns r vs fs p vs'' fs''
-  turned k good (h, kind, room) c o p vs'' fs'' e d a =
-      let l = one_more ks ns q.calls q.at h (omega (arith, good, kind)) (taken k) (ap taken (sym kind)) room in
+  -- one of them is played, by its own numbers
+  pub turned : b ≡ true → {own : List Float} → own ≡ take n (drop q.at ns) → (o : Reply) (p : Run) (vs'' : List ℕ) (fs'' : List Float) →
+      build.outcome o vs'' fs'' ≡ called q.state vs' fs' (call_of k own) → p ≡ behind q o n → Along ks ns r vs fs p vs'' fs''
+  turned y {own} w o p vs'' fs'' e a =
+      let h = (f.on y).0 in
+      let same = (f.on y).1 in
+      let room = (f.on y).2 in
+      let rest = drop q.at ns in
+      let c = call_of k own in
+      let it : c ≡ call_of kind rest =
+      ap (call_of k) (w ∙ ap (λ (j : ℕ). take j rest) (sym t))
+      ∙ its_own k good rest
+      ∙ ap (λ (j : ℕ). call_of j rest) (sym same) in
+      let l = one_more ks ns q.calls q.at h (omega (arith, good, same)) n (sym t ∙ ap taken (sym same)) room in
       let kept = call_kept q.state vs' fs' c o vs'' fs'' e in
       subst (λ (x : Run). Along ks ns r vs fs x vs'' fs'') (sym a) record {
         calls = omega (arith, h);
@@ -80,58 +78,26 @@ module _ {ks : List ℕ} {ns : List Float} {r q : Run} {vs vs' : List ℕ} {fs f
         refused = omega (arith, s.refused, one_at_most o.refused);
         bytes = kept.bytes ∙ s.bytes;
         floats = kept.floats ∙ s.floats;
-        made = turn q.state vs' vs'' fs' fs'' c _ _ _ o q.calls q.refused _ e (d ∙ ap (λ (j : ℕ). call_of j (drop q.at ns)) (sym kind)) l s.made;
+        made = turn q.state vs' vs'' fs' fs'' c _ _ _ o q.calls q.refused _ e it l s.made;
       }
 
-  -- some were played
-  pub went_on : r.calls < q.calls → Ran ks ns r vs fs q vs' fs'
-  went_on h = record { along = s; ended = λ e. absurd (omega (arith, e, h)) }
-
-  -- too few numbers for a single call
-  pub too_few : (k : ℕ) → k ≤ 8 → q.calls < length ks → get_or ks q.calls 0 ≡ k → length ns - q.at < taken k → Ran ks ns r vs fs q vs' fs'
-  too_few k good h kind f =
-      record { along = s; ended = λ e. few_numbers ks ns q.calls q.at h (omega (arith, good, kind)) (taken k) (ap taken (sym kind)) f }
-
-  -- no call of kind k follows: the list is over, or some were played, for the first one is of this kind, or there are too few numbers
-  pub run_over : (k : ℕ) → k ≤ 8 → Next k ks ns r → {t : Bool} → Follows k (taken k) ks q.calls ns q.at t → t ≡ false → Ran ks ns r vs fs q vs' fs'
-  run_over k good n f e = record { along = s; ended = λ same. end same (f.otherwise e) }
+  -- none follows: the list is over, or some were played, for the first one is of this kind, or there are too few numbers
+  pub run_over : Next k ks ns r → b ≡ false → Ran ks ns r vs fs q vs' fs'
+  run_over m y = record { along = s; ended = λ e. end e (f.otherwise y) }
     where
-      end : q.calls ≡ r.calls → (length ks ≤ q.calls) ⊎ ((get_or ks q.calls 0 ≡ k → ⊥) ⊎ ((q.calls < length ks) × (get_or ks q.calls 0 ≡ k) × (length ns - q.at < taken k))) → calls_left ks ns q.calls q.at ≡ []
-      end same (inl h) = no_kind ks ns q.calls q.at h
-      end same (inr (inl h)) = absurd (h (ap (λ (i : ℕ). get_or ks i 0) same ∙ n.kind))
-      end same (inr (inr (h, kind, few))) = few_numbers ks ns q.calls q.at h (omega (arith, good, kind)) (taken k) (ap taken (sym kind)) few
-
--- a single call that takes no buffer
-pub told_one : {k : ℕ} {ks : List ℕ} {ns : List Float} {r : Run} → Next k ks ns r → 5 < k → k ≤ 8 → taken k ≤ length ns - r.at → (vs : List ℕ) (fs : List Float) (s : PathBuilder) (at : ℕ) →
-    s ≡ set_by r.state (call_of k (drop r.at ns)) → at ≡ r.at + taken k → Ran ks ns r vs fs (stood s (r.calls + 1) at r.refused) vs fs
-told_one {k} {ks} {ns} {r} n h good room vs fs s at e a =
-    let c = call_of k (drop r.at ns) in
-    let o : build.outcome (settled s) vs fs ≡ called r.state vs fs c = ap (λ (x : PathBuilder). build.outcome (settled x) vs fs) e ∙ told_called r.state vs fs c (takes_no_buffer k h good (drop r.at ns)) in
-    went_on (turned (begins n vs fs) k good (n.calls, n.kind, room) c (settled s) (stood s (r.calls + 1) at r.refused) vs fs o refl
-    (ap₂ (λ (x y : ℕ). stood s (r.calls + 1) x y) a (sym (add-zero r.refused)))) (omega arith)
+      end : q.calls ≡ r.calls → (length ks ≤ q.calls) ⊎ ((kind ≡ k → ⊥) ⊎ ((q.calls < length ks) × (kind ≡ k) × (length ns - q.at < n))) → calls_left ks ns q.calls q.at ≡ []
+      end e (inl h) = no_kind ks ns q.calls q.at h
+      end e (inr (inl h)) = absurd (h (ap (λ (i : ℕ). get_or ks i 0) e ∙ m.kind))
+      end e (inr (inr (h, same, few))) = few_numbers ks ns q.calls q.at h (omega (arith, good, same)) n (sym t ∙ ap taken (sym same)) few
 
 -- ---- the whole list
 
--- it was played, and left r and these buffers
-pub record Over (ks : List ℕ) (ns : List Float) (vs : List ℕ) (fs : List Float) (r : Run) (vs' : List ℕ) (fs' : List Float) : Type 0 where
-  pub bytes : length vs' ≡ length vs
-  pub floats : length fs' ≡ length fs
-  pub made : replay.played_to (standing r.state vs' fs') r.calls r.refused ≡ replayed ks ns vs fs
-
-pub over_as : {ks : List ℕ} {ns : List Float} {vs vs' us : List ℕ} {fs fs' gs : List Float} {r q : Run} → q ≡ r → us ≡ vs' → gs ≡ fs' →
-    Over ks ns vs fs r vs' fs' → Over ks ns vs fs q us gs
-over_as e f g o = rw (e, f, g) o
-
--- nothing is left behind r
+-- where the run r leaves nothing behind it, the whole list was played
 pub over : {ks : List ℕ} {ns : List Float} {b : PathBuilder} {r : Run} {vs vs' : List ℕ} {fs fs' : List Float} → b ≡ fresh →
-    Along ks ns (stood b 0 0 0) vs fs r vs' fs' → calls_left ks ns r.calls r.at ≡ [] → Over ks ns vs fs r vs' fs'
+    Along ks ns (record { calls = 0; at = 0; refused = 0; state = b }) vs fs r vs' fs' → calls_left ks ns r.calls r.at ≡ [] →
+    played_to (standing r.state vs' fs') r.calls r.refused ≡ replayed ks ns vs fs
 over {ks} {ns} {b} {r} {vs} {vs'} {fs} {fs'} e s h =
-    record {
-      bytes = s.bytes;
-      floats = s.floats;
-      made =
-          played_none (standing r.state vs' fs') _ r.calls r.refused h
-          ∙ s.made
-          ∙ ap (λ (x : PathBuilder). played (standing x vs fs) (calls_left ks ns 0 0) 0 0) e
-          ∙ played_whole ks ns vs fs;
-    }
+    played_none (standing r.state vs' fs') _ r.calls r.refused h
+    ∙ s.made
+    ∙ ap (λ (x : PathBuilder). played (standing x vs fs) (calls_left ks ns 0 0) 0 0) e
+    ∙ played_whole ks ns vs fs

@@ -31,12 +31,6 @@ behind r o n = record { calls = r.calls + 1; at = r.at + n; refused = r.refused 
 abbrev pub max_length : ℕ
 max_length = 9223372036854775807
 
--- the counts are in range, and one more call can be counted
-pub record WithinLength (ns : List Float) (r : Run) : Type 0 where
-  pub calls : r.calls < max_length
-  pub at : r.at ≤ length ns
-  pub refused : r.refused ≤ r.calls
-
 -- a byte k is the next kind
 pub record Next (k : ℕ) (ks : List ℕ) (ns : List Float) (r : Run) : Type 0 where
   pub calls : r.calls < length ks
@@ -63,7 +57,3 @@ pub record Along (ks : List ℕ) (ns : List Float) (r : Run) (vs : List ℕ) (fs
 pub record Ran (ks : List ℕ) (ns : List Float) (r : Run) (vs : List ℕ) (fs : List Float) (q : Run) (vs' : List ℕ) (fs' : List Float) : Type 0 where
   pub along : Along ks ns r vs fs q vs' fs'
   pub ended : q.calls ≡ r.calls → calls_left ks ns q.calls q.at ≡ []
-
--- the same of one call of kind k that takes no buffer, in every list where it is next and over any buffers
-abbrev pub RanTold : ℕ → List Float → Run → Run → Type 0
-RanTold k ns r q = (ks : List ℕ) (vs : List ℕ) (fs : List Float) → Next k ks ns r → Ran ks ns r vs fs q vs fs

@@ -4,8 +4,8 @@ use lib.ListN.{length}
 use Rattle.replay.specs.Run.{Along}
 use Rattle.replay.proofs.replay.Given as goal
 
-abbrev pub invariant-loop-r : goal.invariant-loop-r
-invariant-loop-r l = Along l.fn.kinds l.fn.numbers l.initial.r l.initial.verbs l.initial.points l.r l.verbs l.points
+abbrev pub invariant-loop-kind : goal.invariant-loop-kind
+invariant-loop-kind l = Along l.fn.kinds l.fn.numbers l.initial.r l.initial.verbs l.initial.points l.r l.verbs l.points
 
-abbrev pub decreases-loop-r : goal.decreases-loop-r
-decreases-loop-r l = length l.fn.kinds - l.r.calls
+abbrev pub decreases-loop-kind : goal.decreases-loop-kind
+decreases-loop-kind l = length l.fn.kinds - l.r.calls
