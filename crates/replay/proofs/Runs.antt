@@ -18,6 +18,7 @@ use Rattle.builder.specs.declared.Reply.{Reply}
 use Rattle.builder.specs.Build as build
 use Rattle.builder.specs.Build.{fresh, called}
 use Rattle.replay.specs.Calls.{taken, call_of}
+use Rattle.std.specs.Prelude.{is_err}
 use Rattle.replay.specs.Replay.{played_to, replayed}
 use Rattle.replay.specs.declared.Run.{Run}
 use Rattle.replay.specs.Run.{standing, calls_left, played, behind, Next, Follows, Along, Ran}
@@ -75,7 +76,7 @@ module _ {k n : ℕ} (good : k ≤ 8) (t : taken k ≡ n) {ks : List ℕ} {ns : 
         calls = omega (arith, h);
         on = omega (arith, s.on);
         at = omega (arith, s.at, room);
-        refused = omega (arith, s.refused, one_at_most o.refused);
+        refused = omega (arith, s.refused, one_at_most (is_err o.quads));
         bytes = kept.bytes ∙ s.bytes;
         floats = kept.floats ∙ s.floats;
         made = turn q.state vs' vs'' fs' fs'' c _ _ _ o q.calls q.refused _ e it l s.made;

@@ -1,16 +1,16 @@
 -- What `replay` answers and leaves: the run of the encoded list of calls on a fresh builder; and that every list has an encoding. Definitions only.
-use Rattle.std.specs.Prelude.{◌≡◌, ℕ, zero, suc, ◌+◌, List, [], ◌∷◌, length, Float}
+use Rattle.std.specs.Prelude.{◌≡◌, ℕ, ◌+◌, Bool, true, false, List, [], ◌∷◌, length, Float}
 use Rattle.builder.specs.declared.Call.{Call}
 use Rattle.builder.specs.Build.{Built, fresh_over, run, refusals}
 use Rattle.replay.specs.Calls.{calls, kinds, numbers, AllKinds}
 use Rattle.replay.specs.declared.Replayed.{Replayed}
 
-abbrev pub one_if : ℕ → ℕ
-one_if zero = 0
-one_if (suc n) = 1
+abbrev pub one_if : Bool → ℕ
+one_if false = 0
+one_if true = 1
 
--- how many of the numbers refuse
-unfoldable pub refused_of : List ℕ → ℕ
+-- how many calls are refused
+unfoldable pub refused_of : List Bool → ℕ
 refused_of [] = 0
 refused_of (r ∷ rs) = one_if r + refused_of rs
 

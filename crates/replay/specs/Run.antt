@@ -1,5 +1,5 @@
 -- The playing of an encoded list in runs: where it stands, and what a run of calls does. Definitions only.
-use Rattle.std.specs.Prelude.{◌≡◌, ◌⊎◌, Bool, true, false, List, [], ℕ, ◌+◌, ◌-◌, ◌≤◌, ◌<◌, length, get_or, drop, Float}
+use Rattle.std.specs.Prelude.{◌≡◌, ◌⊎◌, Bool, true, false, List, [], ℕ, ◌+◌, ◌-◌, ◌≤◌, ◌<◌, length, get_or, drop, Float, is_err}
 use Rattle.builder.specs.declared.PathBuilder.{PathBuilder}
 use Rattle.builder.specs.declared.Reply.{Reply}
 use Rattle.builder.specs.declared.Call.{Call}
@@ -25,7 +25,7 @@ rest ks ns r vs fs = played (standing r.state vs fs) (calls_left ks ns r.calls r
 
 -- where the playing stands behind a call that took n numbers and got the reply o
 abbrev pub behind : Run → Reply → ℕ → Run
-behind r o n = record { calls = r.calls + 1; at = r.at + n; refused = r.refused + one_if o.refused; state = o.state }
+behind r o n = record { calls = r.calls + 1; at = r.at + n; refused = r.refused + one_if (is_err o.quads); state = o.state }
 
 -- no slice is longer: 2^63 − 1
 abbrev pub max_length : ℕ

@@ -37,8 +37,7 @@ fn settled(state: PathBuilder) -> Reply
 {
     Reply {
         state,
-        quads: 0,
-        refused: 0,
+        quads: Ok(0),
     }
 }
 
@@ -259,7 +258,7 @@ impl Run {
         Run {
             calls: self.calls + 1,
             at: self.at + n,
-            refused: self.refused + usize::from(reply.refused != 0),
+            refused: self.refused + usize::from(reply.quads.is_err()),
             state: reply.state,
         }
     }
