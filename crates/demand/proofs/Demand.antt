@@ -5,7 +5,9 @@ use Rattle.path.specs.declared.Segment.{Segment}
 use Rattle.builder.specs.Laid.{path_verbs, path_floats}
 use Rattle.builder.proofs.Sound.{good}
 use Rattle.builder.proofs.Kept as kept
-use Rattle.polyline.specs.Flatten.{carried_by, carried_count}
+use Rattle.std.specs.Prelude.{Ok}
+use Rattle.float.specs.declared.SegmentCount.{SegmentCount}
+use Rattle.polyline.specs.Flatten.{carried_count}
 use Rattle.polyline.specs.Kept.{Kept}
 use Rattle.polyline.specs.Polylines.{source}
 use Rattle.polyline.proofs.Counts.{asked}
@@ -24,14 +26,14 @@ demand3 cs bs fs =
       sound = good cs bs fs;
       path = kept.built cs bs fs;
       flattens =
-          λ tolerance out ends marks h.
+          λ tolerance out ends marks t h.
           let f = flattening cs bs fs tolerance out ends marks in
-          subst (λ (ss : List Segment). Kept tolerance ss f.answer (points_left f) (ends_left f) (marks_left f)) (kept.built cs bs fs) (call_kept v p tolerance out ends marks h);
+          subst (λ (ss : List Segment). Kept tolerance ss t (points_left t f) (ends_left t f) (marks_left t f)) (kept.built cs bs fs) (call_kept v p tolerance out ends marks t h);
       as_source =
-          λ tolerance out ends marks h.
-          let f = filled v p tolerance out ends marks h in
+          λ tolerance out ends marks t h.
+          let f = filled v p tolerance out ends marks t h in
           rw (f.points, f.polys) (sourced.as_source v p tolerance (good cs bs fs) ∙ ap (source tolerance) (kept.built cs bs fs));
-      carries = λ tolerance pre s post e h. rw (good cs bs fs, kept.built cs bs fs, e) (ap (carried_by 0) (asked tolerance pre s post h));
+      carries = λ tolerance pre s post e h. rw (good cs bs fs, kept.built cs bs fs, e) (ap (λ (n : SegmentCount). Ok n) (asked tolerance pre s post h));
       dashes =
           λ rule intervals phase tolerance scratch ends marks verbs points o h.
           let d = dashing cs bs fs rule intervals phase tolerance scratch ends marks verbs points in

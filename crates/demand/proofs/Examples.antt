@@ -75,7 +75,7 @@ pub record Starred : Type 0 where
   pub dash_0_2_1 : Draws (whole 0 ∷ whole 2 ∷ whole 1 ∷ []) (at 0 0 ∷ at 8 0 ∷ []) (Move (at 2 0) ∷ Line (at 3 0) ∷ Move (at 3 0) ∷ Line (at 5 0) ∷ [])
   pub whole_fine : cuts (eighth ∷ eighth ∷ []) f0 quarter ≡ false
   -- behind a move to NaN, whose 64 quads of weight 100 a program shows
-  pub weight_0 : laid (MoveTo (vec nan nan) ∷ ConicTo (at 1 1) (at 2 0) f0 ∷ []) (0 ∷ 0 ∷ []) ≡ Move (vec nan nan) ∷ Line (at 2 0) ∷ []
+  pub weight_0 : laid (MoveTo (vec nan nan) ∷ ConicTo (at 1 1) (at 2 0) f0 ∷ []) (false ∷ false ∷ []) ≡ Move (vec nan nan) ∷ Line (at 2 0) ∷ []
 
 pub starred : Starred
 unfolding segment_count held_back marks_out with_drawn subpaths_from bend any_nan all_finite straight lays lay puts laid_from above walk_from cut_from trace traced square_root twice_root whole_root is_finite maximum rem_euclid abs is_nan add sub mul div rem lt le eq neg sum round size units odd span climb of_int of_bits of_fields count_trailing_zeros
