@@ -5,28 +5,31 @@ ghost use Rattle.std.specs.Prelude.{◌≡◌};
 ghost use Rattle.std.specs.Float.{binary32};
 ghost use Rattle.float.specs.Root.{square_root};
 ghost use Rattle.float.specs.Count.{segment_answer};
-ghost use Rattle.path.specs.Check.{bad_path};
+ghost use Rattle.vec2.specs.Vec2.{all_finite};
+ghost use Rattle.path.specs.Check.{check};
+ghost use Rattle.path.specs.Refusal.{number_of};
+ghost use Rattle.path.specs.Rule.{rule_in};
 ghost use Rattle.rect.specs.Rect.{is_empty_rect, holds, width_of, height_of};
 ghost use Rattle.curve.specs.Count.{quad_s, cubic_s, eval_quad, eval_cubic, scaled_tolerance};
-ghost use Rattle.polyline.specs.Flatten.{outcome as flattened, flatten, carried_count};
+ghost use Rattle.polyline.specs.Flatten.{carried_count};
 ghost use Rattle.builder.specs.Build.{fresh, set_by, current_of, note_of, called};
 ghost use Rattle.builder.specs.declared.Call.TheVariants.{MoveTo, LineTo, QuadTo, ConicTo, CubicTo, Close, WithFillRule, AsRoundedRect};
-ghost use Rattle.bounds.specs.Answer.{bounded, answer_to};
-ghost use Rattle.bounds.specs.declared.Question.TheVariants.{Finite, InRange};
-ghost use Rattle.turns.specs.Answer.{polygon_verdict, path_verdict};
+ghost use Rattle.bounds.specs.Answer.{bounds, asked};
+ghost use Rattle.bounds.specs.Range.{in_range};
+ghost use Rattle.turns.specs.Answer.{polygon_convexity, convexity};
 ghost use Rattle.pattern.specs.Cycle.{usable};
 ghost use Rattle.pattern.specs.Style.{line_style};
-ghost use Rattle.crossing.specs.Builder.{rule_in, state_in, state_out, outcome, outcome_out, point_out, note_out};
+ghost use Rattle.crossing.specs.Answers.{bounds_out, answer_out, verdict_out, carried_out, style_out, flatten_outcome, hz_flatten};
+ghost use Rattle.crossing.specs.Builder.{state_in, state_out, outcome, outcome_out, point_out, note_out};
 ghost use Rattle.crossing.specs.Replay.{replay_outcome, hz_replayed};
 ghost use Rattle.crossing.specs.Dash.{dash_outcome, hz_dashing, hz_outline};
-ghost use Rattle.crossing.specs.Convexity.{verdict_out};
 
-use bounds::reply::{Answer, Bounds};
 use builder::PathBuilder;
-use crossing::{HzBuilder, HzDashed, HzNote, HzOutline, HzPoint, HzReplayed, HzReply, HzVerdict};
+use crossing::{
+    HzAnswer, HzBounds, HzBuilder, HzCarried, HzDashed, HzFlattened, HzLineStyle, HzNote,
+    HzOutline, HzPoint, HzReplayed, HzReply, HzVerdict,
+};
 use float::SegmentCount;
-use pattern::LineStyle;
-use polyline::{Carried, Flattened};
 use rect::Rect;
 use vec2::Vec2;
 
@@ -100,35 +103,37 @@ pub extern "C" fn hz_tolerance_for_scale(tolerance: f32, max_scale: f32) -> f32
 pub extern "C" fn hz_new() -> HzBuilder
     ensures { result ≡ state_out fresh }
 {
-    crossing::state_out(PathBuilder::new())
+    PathBuilder::new().into()
 }
 
 #[unsafe(no_mangle)]
 pub extern "C" fn hz_with_fill_rule(state: HzBuilder, rule: u8) -> HzBuilder
     ensures { result ≡ state_out (set_by (state_in state) (WithFillRule (rule_in rule))) }
 {
-    crossing::state_out(crossing::state_in(state).with_fill_rule(crossing::rule_in(rule)))
+    PathBuilder::from(state).with_fill_rule(rule.into()).into()
 }
 
 #[unsafe(no_mangle)]
 pub extern "C" fn hz_as_rounded_rect(state: HzBuilder, rect: Rect, radius: f32) -> HzBuilder
     ensures { result ≡ state_out (set_by (state_in state) (AsRoundedRect rect radius)) }
 {
-    crossing::state_out(crossing::state_in(state).as_rounded_rect(rect, radius))
+    PathBuilder::from(state)
+        .as_rounded_rect(rect, radius)
+        .into()
 }
 
 #[unsafe(no_mangle)]
 pub extern "C" fn hz_current_point(state: HzBuilder) -> HzPoint
     ensures { result ≡ point_out (current_of (state_in state)) }
 {
-    crossing::point_out(crossing::state_in(state).current_point())
+    PathBuilder::from(state).current_point().into()
 }
 
 #[unsafe(no_mangle)]
 pub extern "C" fn hz_rounded_rect(state: HzBuilder) -> HzNote
     ensures { result ≡ note_out (note_of (state_in state)) }
 {
-    crossing::note_out(crossing::state_in(state).rounded_rect())
+    PathBuilder::from(state).rounded_rect().into()
 }
 
 #[unsafe(no_mangle)]
@@ -140,7 +145,7 @@ pub extern "C" fn hz_move_to(
 ) -> HzReply
     ensures { outcome result verbs.new points.new ≡ outcome_out state (called (state_in state) verbs.old points.old (MoveTo p)) }
 {
-    crossing::reply_out(state, crossing::state_in(state).move_to(verbs, points, p))
+    HzReply::new(state, PathBuilder::from(state).move_to(verbs, points, p))
 }
 
 #[unsafe(no_mangle)]
@@ -152,7 +157,7 @@ pub extern "C" fn hz_line_to(
 ) -> HzReply
     ensures { outcome result verbs.new points.new ≡ outcome_out state (called (state_in state) verbs.old points.old (LineTo p)) }
 {
-    crossing::reply_out(state, crossing::state_in(state).line_to(verbs, points, p))
+    HzReply::new(state, PathBuilder::from(state).line_to(verbs, points, p))
 }
 
 #[unsafe(no_mangle)]
@@ -165,9 +170,9 @@ pub extern "C" fn hz_quad_to(
 ) -> HzReply
     ensures { outcome result verbs.new points.new ≡ outcome_out state (called (state_in state) verbs.old points.old (QuadTo ctrl to)) }
 {
-    crossing::reply_out(
+    HzReply::new(
         state,
-        crossing::state_in(state).quad_to(verbs, points, ctrl, to),
+        PathBuilder::from(state).quad_to(verbs, points, ctrl, to),
     )
 }
 
@@ -182,9 +187,9 @@ pub extern "C" fn hz_conic_to(
 ) -> HzReply
     ensures { outcome result verbs.new points.new ≡ outcome_out state (called (state_in state) verbs.old points.old (ConicTo ctrl to weight)) }
 {
-    crossing::reply_out(
+    HzReply::new(
         state,
-        crossing::state_in(state).conic_to(verbs, points, ctrl, to, weight),
+        PathBuilder::from(state).conic_to(verbs, points, ctrl, to, weight),
     )
 }
 
@@ -199,9 +204,9 @@ pub extern "C" fn hz_cubic_to(
 ) -> HzReply
     ensures { outcome result verbs.new points.new ≡ outcome_out state (called (state_in state) verbs.old points.old (CubicTo c0 c1 to)) }
 {
-    crossing::reply_out(
+    HzReply::new(
         state,
-        crossing::state_in(state).cubic_to(verbs, points, c0, c1, to),
+        PathBuilder::from(state).cubic_to(verbs, points, c0, c1, to),
     )
 }
 
@@ -209,7 +214,7 @@ pub extern "C" fn hz_cubic_to(
 pub extern "C" fn hz_close(state: HzBuilder, verbs: &mut [u8], points: &mut [f32]) -> HzReply
     ensures { outcome result verbs.new points.new ≡ outcome_out state (called (state_in state) verbs.old points.old Close) }
 {
-    crossing::reply_out(state, crossing::state_in(state).close(verbs, points))
+    HzReply::new(state, PathBuilder::from(state).close(verbs, points))
 }
 
 // A whole encoded list of calls on a fresh builder: one crossing from C for all of them.
@@ -222,19 +227,20 @@ pub extern "C" fn hz_replay(
 ) -> HzReplayed
     ensures { replay_outcome result verbs.new points.new ≡ hz_replayed kinds.now numbers.now verbs.old points.old }
 {
-    crossing::replayed_out(replay::replay(kinds, numbers, verbs, points))
+    replay::replay(kinds, numbers, verbs, points).into()
 }
 
 // ---- a path that is handed in
 
 #[unsafe(no_mangle)]
 pub extern "C" fn hz_check(verbs: &[u8], points: &[f32]) -> u8
-    ensures { result ≡ bad_path verbs.now points.now }
+    ensures { result ≡ number_of (check verbs.now points.now) }
 {
-    path::check(verbs, points)
+    crossing::number_of(&path::check(verbs, points))
 }
 
 #[unsafe(no_mangle)]
+#[tactic(auto, unfolding(crossing::specs::Answers::hz_flatten))]
 pub extern "C" fn hz_flatten(
     verbs: &[u8],
     points: &[f32],
@@ -242,11 +248,11 @@ pub extern "C" fn hz_flatten(
     out: &mut [f32],
     ends: &mut [usize],
     marks: &mut [u8],
-) -> Flattened
-    ensures { flattened result out.new ends.new marks.new
-        ≡ flatten verbs.now points.now tolerance out.old ends.old marks.old }
+) -> HzFlattened
+    ensures { flatten_outcome result out.new ends.new marks.new
+        ≡ hz_flatten verbs.now points.now tolerance out.old ends.old marks.old }
 {
-    flatten::flatten(verbs, points, tolerance, out, ends, marks)
+    flatten::flatten(verbs, points, tolerance, out, ends, marks).into()
 }
 
 #[unsafe(no_mangle)]
@@ -255,31 +261,31 @@ pub extern "C" fn hz_carried_count(
     points: &[f32],
     tolerance: f32,
     index: usize,
-) -> Carried
-    ensures { result ≡ carried_count verbs.now points.now tolerance index }
+) -> HzCarried
+    ensures { result ≡ carried_out (carried_count verbs.now points.now tolerance index) }
 {
-    flatten::carried_count(verbs, points, tolerance, index)
+    flatten::carried_count(verbs, points, tolerance, index).into()
 }
 
 #[unsafe(no_mangle)]
-pub extern "C" fn hz_bounds(verbs: &[u8], points: &[f32]) -> Bounds
-    ensures { result ≡ bounded verbs.now points.now }
+pub extern "C" fn hz_bounds(verbs: &[u8], points: &[f32]) -> HzBounds
+    ensures { result ≡ bounds_out (bounds verbs.now points.now) }
 {
-    bounds::bounds(verbs, points)
+    bounds::bounds(verbs, points).into()
 }
 
 #[unsafe(no_mangle)]
-pub extern "C" fn hz_is_finite(verbs: &[u8], points: &[f32]) -> Answer
-    ensures { result ≡ answer_to Finite verbs.now points.now }
+pub extern "C" fn hz_is_finite(verbs: &[u8], points: &[f32]) -> HzAnswer
+    ensures { result ≡ answer_out (asked all_finite verbs.now points.now) }
 {
-    bounds::is_finite(verbs, points)
+    bounds::is_finite(verbs, points).into()
 }
 
 #[unsafe(no_mangle)]
-pub extern "C" fn hz_is_within_tessellation_range(verbs: &[u8], points: &[f32]) -> Answer
-    ensures { result ≡ answer_to InRange verbs.now points.now }
+pub extern "C" fn hz_is_within_tessellation_range(verbs: &[u8], points: &[f32]) -> HzAnswer
+    ensures { result ≡ answer_out (asked in_range verbs.now points.now) }
 {
-    bounds::is_within_tessellation_range(verbs, points)
+    bounds::is_within_tessellation_range(verbs, points).into()
 }
 
 // ---- boxes
@@ -316,16 +322,16 @@ pub extern "C" fn hz_height(rect: Rect) -> f32
 
 #[unsafe(no_mangle)]
 pub extern "C" fn hz_convexity(verbs: &[u8], points: &[f32]) -> HzVerdict
-    ensures { result ≡ verdict_out (path_verdict verbs.now points.now) }
+    ensures { result ≡ verdict_out (convexity verbs.now points.now) }
 {
-    crossing::verdict_out(convexity::convexity(verbs, points))
+    convexity::convexity(verbs, points).into()
 }
 
 #[unsafe(no_mangle)]
 pub extern "C" fn hz_polygon_convexity(points: &[f32]) -> HzVerdict
-    ensures { result ≡ verdict_out (polygon_verdict points.now) }
+    ensures { result ≡ verdict_out (polygon_convexity points.now) }
 {
-    crossing::verdict_out(convexity::polygon_convexity(points))
+    convexity::polygon_convexity(points).into()
 }
 
 // ---- patterns
@@ -338,10 +344,10 @@ pub extern "C" fn hz_is_usable(intervals: &[f32], phase: f32) -> bool
 }
 
 #[unsafe(no_mangle)]
-pub extern "C" fn hz_line_style(number: usize) -> LineStyle
-    ensures { result ≡ line_style number }
+pub extern "C" fn hz_line_style(number: usize) -> HzLineStyle
+    ensures { result ≡ style_out (line_style number) }
 {
-    pattern::line_style(number)
+    HzLineStyle::new(pattern::line_style(number))
 }
 
 // ---- dashing
@@ -363,11 +369,10 @@ pub extern "C" fn hz_dash_path(
     ensures { dash_outcome result scratch.new ends.new marks.new dash_verbs.new dash_points.new
         ≡ hz_dashing verbs.now points.now (rule_in rule) intervals.now phase tolerance scratch.old ends.old marks.old dash_verbs.old dash_points.old }
 {
-    let r = crossing::rule_in(rule);
-    crossing::dashed_out(dash::dash_path(
+    dash::dash_path(
         verbs,
         points,
-        r,
+        rule.into(),
         intervals,
         phase,
         tolerance,
@@ -376,10 +381,12 @@ pub extern "C" fn hz_dash_path(
         marks,
         dash_verbs,
         dash_points,
-    ))
+    )
+    .into()
 }
 
 #[unsafe(no_mangle)]
+#[tactic(auto, unfolding(crossing::specs::Dash::hz_outline))]
 pub extern "C" fn hz_drawn_outline<'a>(
     path: &'a [f32],
     points: usize,
@@ -388,9 +395,9 @@ pub extern "C" fn hz_drawn_outline<'a>(
 ) -> HzOutline
     ensures { result ≡ hz_outline path.now points dash.now answer }
 {
-    let part = dash::drawn_outline(path, points, dash, crossing::dashed_in(answer));
+    let part = dash::drawn_outline(path, points, dash, answer.into());
     HzOutline {
         floats: part.len(),
-        from_dash: crossing::flag_out(crossing::flag_in(answer.kind)),
+        from_dash: u8::from(answer.kind != 0),
     }
 }

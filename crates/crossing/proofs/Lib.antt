@@ -1,2 +1,2 @@
-pub mod Exported
 pub mod Dashes
+pub mod Styles

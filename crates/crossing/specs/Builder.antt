@@ -1,30 +1,22 @@
 -- A builder's state and replies as C has them: the fill rule is 0 for the non-zero rule, a flag is 0 for false, and any other byte is the other. Definitions only.
-use Rattle.std.specs.Prelude.{ℕ, Bool, not, cond, List, eqb, Float}
+use Rattle.std.specs.Prelude.{ℕ, Bool, not, cond, List, eqb, Float, Option, Some, None, Result, Ok, Err}
 use Rattle.float.specs.Arith.{f0}
+use Rattle.vec2.specs.declared.Vec2.{Vec2}
 use Rattle.vec2.specs.Vec2.{origin}
-use Rattle.path.specs.declared.FillRule.{FillRule}
-use Rattle.path.specs.declared.FillRule.TheVariants.{NonZero, EvenOdd}
+use Rattle.path.specs.declared.Refusal.{Refusal}
+use Rattle.path.specs.Refusal.{number}
+use Rattle.path.specs.Rule.{rule_in, rule_out}
 use Rattle.builder.specs.declared.PathBuilder.{PathBuilder}
 use Rattle.builder.specs.declared.Reply.{Reply}
-use Rattle.builder.specs.declared.CurrentPoint.{CurrentPoint}
-use Rattle.builder.specs.declared.CurrentPoint.TheVariants.{At, Nowhere}
-use Rattle.builder.specs.declared.Note.{Note}
-use Rattle.builder.specs.declared.Note.TheVariants.{Rounded, Unknown}
+use Rattle.builder.specs.declared.RoundedRect.{RoundedRect}
 use Rattle.builder.specs.Build.{Outcome}
 use Rattle.crossing.specs.declared.HzBuilder.{HzBuilder}
 use Rattle.crossing.specs.declared.HzReply.{HzReply}
 use Rattle.crossing.specs.declared.HzPoint.{HzPoint}
 use Rattle.crossing.specs.declared.HzNote.{HzNote}
 
-abbrev pub rule_out : FillRule → ℕ
-rule_out NonZero = 0
-rule_out EvenOdd = 1
-
 abbrev pub flag_in : ℕ → Bool
 flag_in n = not (eqb n 0)
-
-unfoldable pub rule_in : ℕ → FillRule
-rule_in n = cond (flag_in n) EvenOdd NonZero
 
 abbrev pub flag_out : Bool → ℕ
 flag_out b = cond b 1 0
@@ -67,12 +59,13 @@ state_out b =
       started = flag_out b.started;
     }
 
-abbrev pub reply_with : HzBuilder → Reply → HzReply
-reply_with s r = record { state = s; quads = r.quads; refused = r.refused }
+-- a refused call gives the state back as it came, beside its number
+abbrev pub replied : HzBuilder → PathBuilder → Result ℕ Refusal → HzReply
+replied s b (Ok q) = record { state = state_out b; quads = q; refused = 0 }
+replied s b (Err r) = record { state = s; quads = 0; refused = number r }
 
--- a refused call gives the state back as it came
 unfoldable pub reply_out : HzBuilder → Reply → HzReply
-reply_out s r = cond (flag_in r.refused) (reply_with s r) (reply_with (state_out r.state) r)
+reply_out s r = replied s r.state r.quads
 
 -- the reply, and what both buffers hold afterwards
 pub record HzOutcome : Type 0 where
@@ -87,10 +80,10 @@ outcome r vs fs = record { reply = r; bytes = vs; floats = fs }
 abbrev pub outcome_out : HzBuilder → Outcome → HzOutcome
 outcome_out s o = outcome (reply_out s o.reply) o.bytes o.floats
 
-abbrev pub point_out : CurrentPoint → HzPoint
-point_out (At px py) = record { x = px; y = py; known = 1 }
-point_out Nowhere = record { x = f0; y = f0; known = 0 }
+abbrev pub point_out : Option Vec2 → HzPoint
+point_out (Some p) = record { x = p.x; y = p.y; known = 1 }
+point_out None = record { x = f0; y = f0; known = 0 }
 
-abbrev pub note_out : Note → HzNote
-note_out (Rounded b r) = record { rect = b; radius = r; known = 1 }
-note_out Unknown = record { rect = record { min = origin; max = origin }; radius = f0; known = 0 }
+abbrev pub note_out : Option RoundedRect → HzNote
+note_out (Some n) = record { rect = n.rect; radius = n.radius; known = 1 }
+note_out None = record { rect = record { min = origin; max = origin }; radius = f0; known = 0 }

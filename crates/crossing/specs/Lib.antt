@@ -1,4 +1,4 @@
-pub mod Convexity
+pub mod Answers
 pub mod Builder
 pub mod Dash
 pub mod Replay

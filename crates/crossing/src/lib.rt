@@ -1,20 +1,36 @@
-// What crosses to C and back: the types as C has them, and their making from the library's own and back.
+// What crosses to C and back: the types as C has them, and their making from the library's own and back. C has no Option and no Result: a flag or a number stands beside the
+// value there, and the value is 0 where the number refuses.
 #![tactic(auto)]
 
-ghost use Rattle.std.specs.Prelude.{◌≡◌};
+ghost use Rattle.std.specs.Prelude.{◌≡◌, ◌≤◌, length, IfOk};
+ghost use Rattle.std.specs.Result.{result_map_both};
+ghost use Rattle.pattern.specs.Cycle.{max_intervals};
+ghost use Rattle.path.specs.Refusal.{number_of};
 ghost use Rattle.outline.specs.Answer.{answer_of};
-ghost use Rattle.crossing.specs.Builder.{rule_in, rule_out, flag_in, flag_out, state_in, state_out, reply_with, reply_out, point_out, note_out};
+ghost use Rattle.crossing.specs.Answers.{bounds_out, answer_out, verdict_out, flattened_out, carried_out, style_out};
+ghost use Rattle.crossing.specs.Builder.{state_in, state_out, reply_out, point_out, note_out};
 ghost use Rattle.crossing.specs.Replay.{replayed_out};
-ghost use Rattle.crossing.specs.Dash.{uncut, cut_out, dashed_out, outline_in, dashed_in};
-ghost use Rattle.crossing.specs.Convexity.{convexity_byte, verdict_out};
+ghost use Rattle.crossing.specs.Dash.{dashed_out, dashed_in};
 
-use builder::{CurrentPoint, Note, PathBuilder, Reply};
+use builder::{PathBuilder, Reply, RoundedRect};
+use float::SegmentCount;
 use outline::{Dashed, Outline};
-use path::FillRule;
+use path::{FillRule, Refusal};
+use polyline::Flattened;
 use rect::Rect;
 use replay::Replayed;
-use turns::{Convexity, Verdict};
+use turns::Convexity;
 use vec2::Vec2;
+
+// The number that refuses, 0 for none.
+pub fn number_of<T>(answer: &Result<T, Refusal>) -> u8
+    ensures { result ≡ number_of answer.now }
+{
+    match answer {
+        Ok(_) => 0,
+        Err(refusal) => (*refusal).into(),
+    }
+}
 
 // ---- building
 
@@ -38,12 +54,81 @@ pub struct HzBuilder {
     pub started: u8,
 }
 
+impl From<HzBuilder> for PathBuilder {
+    ghost from_gives = { λ s b. b ≡ state_in s };
+
+    #[tactic(auto, unfolding(crate::specs::Builder::state_in))]
+    fn from(s: HzBuilder) -> PathBuilder {
+        PathBuilder {
+            verbs: s.verbs,
+            points: s.points,
+            start_x: s.start_x,
+            start_y: s.start_y,
+            pen_x: s.pen_x,
+            pen_y: s.pen_y,
+            min_x: s.min_x,
+            min_y: s.min_y,
+            max_x: s.max_x,
+            max_y: s.max_y,
+            radius: s.radius,
+            fill_rule: FillRule::from(s.fill_rule),
+            noted: s.noted != 0,
+            started: s.started != 0,
+        }
+    }
+}
+
+impl From<PathBuilder> for HzBuilder {
+    ghost from_gives = { λ b s. s ≡ state_out b };
+
+    #[tactic(auto, unfolding(crate::specs::Builder::state_out))]
+    fn from(b: PathBuilder) -> HzBuilder {
+        HzBuilder {
+            verbs: b.verbs,
+            points: b.points,
+            start_x: b.start_x,
+            start_y: b.start_y,
+            pen_x: b.pen_x,
+            pen_y: b.pen_y,
+            min_x: b.min_x,
+            min_y: b.min_y,
+            max_x: b.max_x,
+            max_y: b.max_y,
+            radius: b.radius,
+            fill_rule: u8::from(b.fill_rule),
+            noted: u8::from(b.noted),
+            started: u8::from(b.started),
+        }
+    }
+}
+
 #[repr(C)]
 #[derive(Clone, Copy)]
 pub struct HzReply {
     pub state: HzBuilder,
     pub quads: usize,
     pub refused: u8,
+}
+
+impl HzReply {
+    // The reply to a call that was handed the state s. A refused call gives the state back as it came.
+    #[tactic(auto, unfolding(crate::specs::Builder::reply_out))]
+    pub fn new(s: HzBuilder, reply: Reply) -> HzReply
+        ensures { result ≡ reply_out s reply }
+    {
+        match reply.quads {
+            Ok(quads) => HzReply {
+                state: reply.state.into(),
+                quads,
+                refused: 0,
+            },
+            Err(refusal) => HzReply {
+                state: s,
+                quads: 0,
+                refused: refusal.into(),
+            },
+        }
+    }
 }
 
 // The pen, where known is 1.
@@ -55,6 +140,21 @@ pub struct HzPoint {
     pub known: u8,
 }
 
+impl From<Option<Vec2>> for HzPoint {
+    ghost from_gives = { λ p h. h ≡ point_out p };
+
+    fn from(p: Option<Vec2>) -> HzPoint {
+        match p {
+            Some(Vec2 { x, y }) => HzPoint { x, y, known: 1 },
+            None => HzPoint {
+                x: 0.0,
+                y: 0.0,
+                known: 0,
+            },
+        }
+    }
+}
+
 // The rounded rectangle that a path was built from, where known is 1.
 #[repr(C)]
 #[derive(Clone, Copy)]
@@ -64,130 +164,25 @@ pub struct HzNote {
     pub known: u8,
 }
 
-fn rule_out(rule: FillRule) -> u8
-    ensures { result ≡ rule_out rule }
-{
-    match rule {
-        FillRule::NonZero => 0,
-        FillRule::EvenOdd => 1,
-    }
-}
+impl From<Option<RoundedRect>> for HzNote {
+    ghost from_gives = { λ n h. h ≡ note_out n };
 
-pub fn flag_in(n: u8) -> bool
-    ensures { result ≡ flag_in n }
-{
-    n != 0
-}
-
-pub fn rule_in(n: u8) -> FillRule
-    ensures { result ≡ rule_in n }
-{
-    if flag_in(n) {
-        return FillRule::EvenOdd;
-    }
-    FillRule::NonZero
-}
-
-pub fn flag_out(b: bool) -> u8
-    ensures { result ≡ flag_out b }
-{
-    if b { 1 } else { 0 }
-}
-
-pub fn state_in(s: HzBuilder) -> PathBuilder
-    ensures { result ≡ state_in s }
-{
-    PathBuilder {
-        verbs: s.verbs,
-        points: s.points,
-        start_x: s.start_x,
-        start_y: s.start_y,
-        pen_x: s.pen_x,
-        pen_y: s.pen_y,
-        min_x: s.min_x,
-        min_y: s.min_y,
-        max_x: s.max_x,
-        max_y: s.max_y,
-        radius: s.radius,
-        fill_rule: rule_in(s.fill_rule),
-        noted: flag_in(s.noted),
-        started: flag_in(s.started),
-    }
-}
-
-pub fn state_out(b: PathBuilder) -> HzBuilder
-    ensures { result ≡ state_out b }
-{
-    let rule = b.fill_rule;
-    HzBuilder {
-        verbs: b.verbs,
-        points: b.points,
-        start_x: b.start_x,
-        start_y: b.start_y,
-        pen_x: b.pen_x,
-        pen_y: b.pen_y,
-        min_x: b.min_x,
-        min_y: b.min_y,
-        max_x: b.max_x,
-        max_y: b.max_y,
-        radius: b.radius,
-        fill_rule: rule_out(rule),
-        noted: flag_out(b.noted),
-        started: flag_out(b.started),
-    }
-}
-
-fn reply_with(s: HzBuilder, r: Reply) -> HzReply
-    ensures { result ≡ reply_with s r }
-{
-    HzReply {
-        state: s,
-        quads: r.quads,
-        refused: r.refused,
-    }
-}
-
-// A refused call gives the state back as it came.
-pub fn reply_out(s: HzBuilder, r: Reply) -> HzReply
-    ensures { result ≡ reply_out s r }
-{
-    let state = r.state;
-    if flag_in(r.refused) {
-        return reply_with(s, r);
-    }
-    reply_with(state_out(state), r)
-}
-
-pub fn point_out(p: CurrentPoint) -> HzPoint
-    ensures { result ≡ point_out p }
-{
-    match p {
-        CurrentPoint::At(x, y) => HzPoint { x, y, known: 1 },
-        CurrentPoint::Nowhere => HzPoint {
-            x: 0.0,
-            y: 0.0,
-            known: 0,
-        },
-    }
-}
-
-pub fn note_out(n: Note) -> HzNote
-    ensures { result ≡ note_out n }
-{
-    match n {
-        Note::Rounded(rect, radius) => HzNote {
-            rect,
-            radius,
-            known: 1,
-        },
-        Note::Unknown => HzNote {
-            rect: Rect {
-                min: Vec2::zero(),
-                max: Vec2::zero(),
+    fn from(note: Option<RoundedRect>) -> HzNote {
+        match note {
+            Some(RoundedRect { rect, radius }) => HzNote {
+                rect,
+                radius,
+                known: 1,
             },
-            radius: 0.0,
-            known: 0,
-        },
+            None => HzNote {
+                rect: Rect {
+                    min: Vec2::zero(),
+                    max: Vec2::zero(),
+                },
+                radius: 0.0,
+                known: 0,
+            },
+        }
     }
 }
 
@@ -200,18 +195,61 @@ pub struct HzReplayed {
     pub refused: usize,
 }
 
-pub fn replayed_out(r: Replayed) -> HzReplayed
-    ensures { result ≡ replayed_out r }
-{
-    let state = r.state;
-    HzReplayed {
-        state: state_out(state),
-        calls: r.calls,
-        refused: r.refused,
+impl From<Replayed> for HzReplayed {
+    ghost from_gives = { λ r h. h ≡ replayed_out r };
+
+    fn from(r: Replayed) -> HzReplayed {
+        HzReplayed {
+            state: r.state.into(),
+            calls: r.calls,
+            refused: r.refused,
+        }
     }
 }
 
-// ---- convexity
+// ---- questions about a path
+
+#[repr(C)]
+#[derive(Clone, Copy)]
+pub struct HzBounds {
+    pub rect: Rect,
+    pub refused: u8,
+}
+
+impl From<Result<Rect, Refusal>> for HzBounds {
+    ghost from_gives = { λ r h. h ≡ bounds_out r };
+
+    fn from(answer: Result<Rect, Refusal>) -> HzBounds {
+        match answer {
+            Ok(rect) => HzBounds { rect, refused: 0 },
+            Err(refusal) => HzBounds {
+                rect: Rect::empty(),
+                refused: refusal.into(),
+            },
+        }
+    }
+}
+
+#[repr(C)]
+#[derive(Clone, Copy)]
+pub struct HzAnswer {
+    pub holds: bool,
+    pub refused: u8,
+}
+
+impl From<Result<bool, Refusal>> for HzAnswer {
+    ghost from_gives = { λ r h. h ≡ answer_out r };
+
+    fn from(answer: Result<bool, Refusal>) -> HzAnswer {
+        match answer {
+            Ok(holds) => HzAnswer { holds, refused: 0 },
+            Err(refusal) => HzAnswer {
+                holds: false,
+                refused: refusal.into(),
+            },
+        }
+    }
+}
 
 // 0 for Convex, 1 for Concave.
 #[repr(C)]
@@ -221,26 +259,130 @@ pub struct HzVerdict {
     pub refused: u8,
 }
 
-fn convexity_byte(c: Convexity) -> u8
-    ensures { result ≡ convexity_byte c }
-{
-    match c {
-        Convexity::Convex => 0,
-        Convexity::Concave => 1,
+impl From<Result<Convexity, Refusal>> for HzVerdict {
+    ghost from_gives = { λ r h. h ≡ verdict_out r };
+
+    fn from(answer: Result<Convexity, Refusal>) -> HzVerdict {
+        match answer {
+            Ok(convexity) => HzVerdict {
+                convexity: convexity as u8,
+                refused: 0,
+            },
+            Err(refusal) => HzVerdict {
+                convexity: Convexity::Concave as u8,
+                refused: refusal.into(),
+            },
+        }
     }
 }
 
-pub fn verdict_out(v: Verdict) -> HzVerdict
-    ensures { result ≡ verdict_out v }
-{
-    let c = v.convexity;
-    HzVerdict {
-        convexity: convexity_byte(c),
-        refused: v.refused,
+// ---- flattening
+
+#[repr(C)]
+#[derive(Clone, Copy)]
+pub struct HzFlattened {
+    pub points: usize,
+    pub polylines: usize,
+    pub starts: usize,
+    pub lines: usize,
+    pub counts: usize,
+    pub closings: usize,
+    pub held: usize,
+    pub refused: u8,
+}
+
+impl From<Result<Flattened, Refusal>> for HzFlattened {
+    ghost from_gives = { λ r h. h ≡ flattened_out r };
+
+    fn from(answer: Result<Flattened, Refusal>) -> HzFlattened {
+        match answer {
+            Ok(t) => HzFlattened {
+                points: t.points,
+                polylines: t.polylines,
+                starts: t.starts,
+                lines: t.lines,
+                counts: t.counts,
+                closings: t.closings,
+                held: t.held,
+                refused: 0,
+            },
+            Err(refusal) => HzFlattened {
+                points: 0,
+                polylines: 0,
+                starts: 0,
+                lines: 0,
+                counts: 0,
+                closings: 0,
+                held: 0,
+                refused: refusal.into(),
+            },
+        }
+    }
+}
+
+// A carried count and whether it was held back.
+#[repr(C)]
+#[derive(Clone, Copy)]
+pub struct HzCarried {
+    pub count: usize,
+    pub held: bool,
+    pub refused: u8,
+}
+
+impl From<Result<SegmentCount, Refusal>> for HzCarried {
+    ghost from_gives = { λ r h. h ≡ carried_out r };
+
+    fn from(answer: Result<SegmentCount, Refusal>) -> HzCarried {
+        match answer {
+            Ok(n) => HzCarried {
+                count: n.count as usize,
+                held: n.held,
+                refused: 0,
+            },
+            Err(refusal) => HzCarried {
+                count: 0,
+                held: false,
+                refused: refusal.into(),
+            },
+        }
     }
 }
 
 // ---- dashing
+
+// A line style: its intervals are the first `len` of `values`, the others 0. C gets no slice, and the array goes by value.
+#[repr(C)]
+#[derive(Clone, Copy)]
+pub struct HzLineStyle {
+    pub values: [f32; pattern::MAX_INTERVALS],
+    pub len: usize,
+    pub refused: u8,
+}
+
+impl HzLineStyle {
+    pub fn new(style: Result<&[f32], Refusal>) -> HzLineStyle
+        requires { IfOk style (λ s. length s.now ≤ max_intervals) }
+        ensures { result ≡ style_out (result_map_both (λ s. s.now) (λ r. r) style.entry) }
+    {
+        let mut values = [0.0; pattern::MAX_INTERVALS];
+        match style {
+            Ok(intervals) => {
+                let len = intervals.len();
+                values[..len].copy_from_slice(intervals);
+                HzLineStyle {
+                    values,
+                    len,
+                    refused: 0,
+                }
+            }
+            Err(refusal) => HzLineStyle {
+                values,
+                len: 0,
+                refused: refusal.into(),
+            },
+        }
+    }
+}
 
 // What a dashing answers: kind is 0 for Whole, 1 for Cut, 2 for a refusal. Counts, the curves held back (W2) included, are 0 unless cut.
 #[repr(C)]
@@ -256,76 +398,68 @@ pub struct HzDashed {
     pub refused: u8,
 }
 
+// Nothing is cut.
+const UNCUT: HzDashed = HzDashed {
+    verbs: 0,
+    points: 0,
+    scratch: 0,
+    polylines: 0,
+    held: 0,
+    kind: 0,
+    fill_rule: 0,
+    refused: 0,
+};
+
+impl From<Result<Dashed, Refusal>> for HzDashed {
+    ghost from_gives = { λ d h. h ≡ dashed_out (answer_of d) };
+
+    fn from(answer: Result<Dashed, Refusal>) -> HzDashed {
+        match answer {
+            Ok(Dashed::Whole) => UNCUT,
+            Ok(Dashed::Cut(o)) => HzDashed {
+                verbs: o.verbs,
+                points: o.points,
+                scratch: o.scratch,
+                polylines: o.polylines,
+                held: o.held,
+                kind: 1,
+                fill_rule: o.rule.into(),
+                refused: 0,
+            },
+            Err(refusal) => HzDashed {
+                kind: 2,
+                refused: refusal.into(),
+                ..UNCUT
+            },
+        }
+    }
+}
+
+// What was drawn, as `drawn_outline` takes it; none where the dashing was refused.
+impl From<HzDashed> for Option<Dashed> {
+    ghost from_gives = { λ h d. d ≡ dashed_in h };
+
+    #[tactic(auto, unfolding(crate::specs::Dash::dashed_in))]
+    fn from(a: HzDashed) -> Option<Dashed> {
+        match a.kind {
+            0 => Some(Dashed::Whole),
+            1 => Some(Dashed::Cut(Outline {
+                verbs: a.verbs,
+                points: a.points,
+                scratch: a.scratch,
+                polylines: a.polylines,
+                held: a.held,
+                rule: FillRule::from(a.fill_rule),
+            })),
+            _ => None,
+        }
+    }
+}
+
 // The first so many floats, of the dash buffer where from_dash is 1, else of the path's.
 #[repr(C)]
 #[derive(Clone, Copy)]
 pub struct HzOutline {
     pub floats: usize,
     pub from_dash: u8,
-}
-
-fn uncut(kind: u8, refused: u8) -> HzDashed
-    ensures { result ≡ uncut kind 0 refused }
-{
-    HzDashed {
-        verbs: 0,
-        points: 0,
-        scratch: 0,
-        polylines: 0,
-        held: 0,
-        kind,
-        fill_rule: 0,
-        refused,
-    }
-}
-
-fn cut_out(o: Outline) -> HzDashed
-    ensures { result ≡ cut_out o }
-{
-    let rule = o.rule;
-    HzDashed {
-        verbs: o.verbs,
-        points: o.points,
-        scratch: o.scratch,
-        polylines: o.polylines,
-        held: o.held,
-        kind: 1,
-        fill_rule: rule_out(rule),
-        refused: 0,
-    }
-}
-
-pub fn dashed_out(d: Dashed) -> HzDashed
-    ensures { result ≡ dashed_out (answer_of d) }
-{
-    match d {
-        Dashed::Whole => uncut(0, 0),
-        Dashed::Cut(o) => cut_out(o),
-        Dashed::Refused(n) => uncut(2, n),
-    }
-}
-
-fn outline_in(a: HzDashed) -> Outline
-    ensures { result ≡ outline_in a }
-{
-    Outline {
-        verbs: a.verbs,
-        points: a.points,
-        scratch: a.scratch,
-        polylines: a.polylines,
-        held: a.held,
-        rule: rule_in(a.fill_rule),
-    }
-}
-
-pub fn dashed_in(a: HzDashed) -> Dashed
-    ensures { result ≡ dashed_in a }
-{
-    if a.kind == 0 {
-        return Dashed::Whole;
-    }
-    if a.kind == 1 {
-        return Dashed::Cut(outline_in(a));
-    }
-    Dashed::Refused(a.refused)
 }

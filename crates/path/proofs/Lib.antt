@@ -2,3 +2,4 @@ pub mod Checks
 pub mod Encoded
 pub mod Steps
 pub mod Refusals
+pub mod Styles

@@ -1,5 +1,0 @@
--- `hz_polygon_convexity` meets its contract. Assumes nothing.
-use Rattle.capi.proofs.hz_polygon_convexity.Goals as goal
-
-pub returns : goal.returns
-returns c = cc
