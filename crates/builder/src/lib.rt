@@ -222,7 +222,8 @@ impl PathBuilder {
         }
     }
 
-    // A drawn segment; before any move it starts at the origin.
+    // A drawn segment; before any move it starts at the origin. Inlined with all that it calls, so that no segment goes through memory: its kind is known there.
+    #[inline(always)]
     fn draw(self, s: Segment, verbs: &mut [u8], points: &mut [f32]) -> Reply
         requires { is_drawn s ≡ true }
         ensures { outcome result verbs.new points.new ≡ pushed 0 self verbs.old points.old (opening self.started ++ s ∷ []) }
@@ -233,7 +234,6 @@ impl PathBuilder {
 
     // ---- the calls
 
-    #[tactic(auto, unfolding(crate::specs::Build::called, crate::specs::Build::quads_laid, crate::specs::Call::lays))]
     pub fn move_to(self, verbs: &mut [u8], points: &mut [f32], p: Vec2) -> Reply
         ensures { outcome result verbs.new points.new ≡ called self verbs.old points.old (MoveTo p) }
     {
@@ -270,14 +270,13 @@ impl PathBuilder {
     }
 
     // Closes the subpath: the pen returns to the latest move's point.
-    #[tactic(auto, unfolding(crate::specs::Build::called, crate::specs::Build::quads_laid, crate::specs::Call::lays))]
     pub fn close(self, verbs: &mut [u8], points: &mut [f32]) -> Reply
         ensures { outcome result verbs.new points.new ≡ called self verbs.old points.old Close }
     {
         let at = self.standing();
         if self.started {
             let laid = at.lay(Segment::Close, verbs, points);
-            let start = self.start();
+            let start = Vec2::new(self.start_x, self.start_y);
             return self.settle(laid, start, start);
         }
         // nothing is laid, and the buffers are looked at all the same

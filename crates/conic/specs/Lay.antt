@@ -1,22 +1,19 @@
 -- What the splitting of a conic has done to the buffers that it is lent. Definitions only.
-use Rattle.std.specs.Prelude.{◌≡◌, ℕ, zero, suc, true, List, get_or, drop, length, Float}
+use Rattle.std.specs.Prelude.{◌≡◌, ℕ, zero, suc, Option, Some, None, List, get_or, drop, length, Float}
 use Rattle.std.proofs.lemmas.List.Edits.{sets}
-use Rattle.std.specs.Float.{nan}
-use Rattle.std.specs.Float.Ieee.{lt}
-use Rattle.float.specs.Arith.{f0}
 use Rattle.vec2.specs.Points.{flat}
 use Rattle.path.specs.declared.Segment.{Segment}
 use Rattle.path.specs.Segment.{bytes_of, all_points}
 use Rattle.halves.specs.Conic.{half_weight, quads}
 use Rattle.conic.specs.declared.Conic.{Conic}
 
--- Of the k levels below weight w: where ws has a weight above 0 at k − 1, it is that of w's halves, and so on down.
-abbrev pub Levels : ℕ → Float → List Float → Type 0
+-- Of the k levels below weight w: where ws has a weight at k − 1, it is that of w's halves, and so on down.
+abbrev pub Levels : ℕ → Float → List (Option Float) → Type 0
 Levels zero w ws = Unit
-Levels (suc k) w ws = (lt f0 (get_or ws k nan) ≡ true → get_or ws k nan ≡ half_weight w) × Levels k (half_weight w) ws
+Levels (suc k) w ws = ((u : Float) → get_or ws k None ≡ Some u → u ≡ half_weight w) × Levels k (half_weight w) ws
 
 -- behind a call for weight w with k levels below it: these still hold, and those above them are as they were
-pub record KeptLevels (k : ℕ) (w : Float) (ws ws' : List Float) : Type 0 where
+pub record KeptLevels (k : ℕ) (w : Float) (ws ws' : List (Option Float)) : Type 0 where
   pub below : Levels k w ws'
   pub above : drop k ws' ≡ drop k ws
 

@@ -35,30 +35,36 @@ pub const MAX_FLOATS: usize = 256;
 // The weight of a quarter of a circle, the root of a half, by its bits; and those of its levels that are not near 1, from the last to the first.
 const QUARTER: u32 = 0x3f35_04f3;
 
-const QUARTER_LEVELS: [f32; 6] = [0.0, 0.0, 0.99879545, 0.9951847, 0.9807853, 0.92387956];
+const QUARTER_LEVELS: [Option<f32>; 6] = [
+    None,
+    None,
+    Some(0.99879545),
+    Some(0.9951847),
+    Some(0.9807853),
+    Some(0.92387956),
+];
 
 // The weights of the levels that are known beforehand, from the last to the first: those of a quarter of a circle, the arc of circles and rounded corners.
-fn known_levels(weight: f32) -> [f32; 6]
+fn known_levels(weight: f32) -> [Option<f32>; 6]
     ensures { Levels 6 weight result }
 {
     if weight > 0.0 && f32::to_bits(weight) == QUARTER {
         return QUARTER_LEVELS;
     }
-    [0.0; 6]
+    [None; 6]
 }
 
 // The weight of the halves of a half that may be split k times more. It is kept for the other halves of its level.
 #[tactic(auto, using(crate::proofs::Levels::levels_first, crate::proofs::Levels::kept_none, crate::proofs::Levels::kept_one))]
-fn level_weight(weight: f32, levels: &mut [f32; 6], k: usize) -> f32
+fn level_weight(weight: f32, levels: &mut [Option<f32>; 6], k: usize) -> f32
     requires { (1 ≤ k) × (k ≤ 6) × Levels k weight levels.old }
     ensures { (result ≡ half_weight weight) × KeptLevels k weight levels.old levels.new }
 {
-    let given = levels[k - 1];
-    if given > 0.0 {
+    if let Some(given) = levels[k - 1] {
         return given;
     }
     let u = split_weight(weight);
-    levels[k - 1] = u;
+    levels[k - 1] = Some(u);
     u
 }
 
@@ -81,7 +87,7 @@ fn put_quad(h: [[f32; 2]; 3], points: &mut [f32], p: usize) -> usize
 fn push_half(
     h: [[f32; 2]; 3],
     weight: f32,
-    levels: &mut [f32; 6],
+    levels: &mut [Option<f32>; 6],
     k: usize,
     points: &mut [f32],
     p: usize,

@@ -28,7 +28,8 @@ pub fn open(at: Standing, verbs: &mut [u8], points: &mut [f32]) -> Standing
     at.put(Segment::Move(Vec2::zero()), verbs, points)
 }
 
-// Lays a drawn segment behind its opening, or refuses both.
+// Lays a drawn segment behind its opening, or refuses both. Inlined, since where it is called the segment's kind is known.
+#[inline(always)]
 #[tactic(auto, using(store::proofs::Refusals::refusal_fits))]
 pub fn lay(
     at: Standing,

@@ -98,7 +98,8 @@ impl Standing {
         }
     }
 
-    // Stores a segment that has room behind what stands, and says where it stands now.
+    // Stores a segment that has room behind what stands, and says where it stands now. Inlined, since where it is called the segment's kind is known.
+    #[inline(always)]
     pub fn put(self, s: Segment, verbs: &mut [u8], points: &mut [f32]) -> Standing
         requires { Fits self (length verbs.old) (length points.old) 1 (length (points_of s)) }
         ensures { (result ≡ next self s) × Stored self verbs.old points.old (s ∷ []) verbs.new points.new }
@@ -121,7 +122,8 @@ impl Standing {
         self.past(1, point_count(s))
     }
 
-    // Lays a segment, or refuses it.
+    // Lays a segment, or refuses it. Inlined like `put`.
+    #[inline(always)]
     #[tactic(auto, using(crate::proofs::Refusals::refusal_fits))]
     pub fn lay(self, s: Segment, verbs: &mut [u8], points: &mut [f32]) -> Result<Standing, Refusal>
         ensures { Laid result (next self s) self verbs.old points.old (s ∷ []) verbs.new points.new }

@@ -5,6 +5,7 @@ use mathlib.Core.List.{List, ◌++◌}
 use Prim.Native.Nat.{ℕ, ◌-◌, ◌≤◌}
 use native.Mathlib.Omega.{arith}
 use lib.Ieee.{Float}
+use Rattle.std.specs.Prelude.{Option}
 use Rattle.halves.specs.Halves.{single, pieces}
 use Rattle.halves.specs.Conic.{half_weight}
 use Rattle.halves.proofs.Pieces.{pieces_two, split_more, pieces_floats}
@@ -14,7 +15,7 @@ use Rattle.conic.proofs.Stores.{put_one, put_two}
 use Rattle.conic.proofs.+push_half.Goals as goal
 
 -- what its halves leave of the levels' weights is kept
-onward : (k : ℕ) (w u : Float) {ws ws' ws'' : List Float} → 1 ≤ k → u ≡ half_weight w → KeptLevels k w ws ws' → KeptLevels (k - 1) u ws' ws'' → KeptLevels k w ws ws''
+onward : (k : ℕ) (w u : Float) {ws ws' ws'' : List (Option Float)} → 1 ≤ k → u ≡ half_weight w → KeptLevels k w ws ws' → KeptLevels (k - 1) u ws' ws'' → KeptLevels k w ws ws''
 onward k w u {ws} {ws'} {ws''} l e p q = kept_down k w l p (subst (λ (v : Float). KeptLevels (k - 1) v ws' ws'') e q)
 
 pub returns-then-is_quad : goal.returns-then-is_quad

@@ -1,10 +1,9 @@
 -- `builder::PathBuilder::close` meets its contract. Assumes nothing.
-use mathlib.Core.Path.{refl, ap, ◌∙◌}
-use mathlib.Core.Bool.{Bool, true, false}
+use mathlib.Core.Path.{refl, ◌∙◌}
+use mathlib.Core.Bool.{true, false}
 use mathlib.Core.List.{[], ◌∷◌}
 use Rattle.path.specs.declared.Segment.TheVariants.{Close}
-use Rattle.builder.specs.Build.{start_of, steps, refusal}
-use Rattle.builder.specs.Call.{from}
+use Rattle.builder.specs.Build.{steps, refusal}
 use Rattle.builder.proofs.Lays.{replied, unmoved, close_called}
 use Rattle.builder.proofs.PathBuilder.close.Goals as goal
 
@@ -13,7 +12,7 @@ unfolding steps
 returns-then-self c =
     let b = c.args.self in
     close_called b _ _ true c.if-self.true
-    (rw (c.settle.ensures, c.start-start.ensures ∙ ap (λ (t : Bool). from t (start_of b)) c.if-self.true)
+    (rw (c.settle.ensures, c.new-start.ensures)
     (replied b _ _ (Close ∷ []) _ _ _ (rw c.standing-at.ensures at c.lay-laid.ensures) refl))
 
 pub returns : goal.returns
