@@ -17,7 +17,8 @@ fn is_zero(x: f32) -> bool
     x <= 0.0
 }
 
-// The next interval's number.
+// The next interval's number. That the index is below the cycle's length stands in each contract: a struct of the two would have to promise at each turn of the
+// walk that the cycle is still the same, and would be no plainer.
 fn index_after(cycle: &[f32], index: usize) -> usize
     requires { index < length cycle.now }
     ensures { (result ≡ after cycle.now index) × (result < length cycle.now) }
@@ -74,11 +75,18 @@ pub fn gaps_only(cycle: &[f32]) -> bool
 
 // ---- the phase
 
+// A cycle, and where in it the walk of each polyline begins.
+#[derive(Clone, Copy)]
+pub struct Start<'a> {
+    pub cycle: &'a [f32],
+    pub pos: Pos,
+    pub ghost indexed: { pos.index < length cycle.now },
+}
+
 // Where in the cycle a walk begins. What remains of the phase falls at each turn, or the loop is left.
-pub fn start_of(cycle: &[f32], phase: f32, period: f32) -> Pos
+pub fn start_of<'a>(cycle: &'a [f32], phase: f32, period: f32) -> Start<'a>
     requires { 0 < length cycle.now }
-    ensures started { result ≡ start_of cycle.now phase period }
-    ensures indexed { result.index < length cycle.now }
+    ensures { (result.pos ≡ start_of cycle.now phase period) × (result.cycle.now ≡ cycle.now) }
 {
     let mut remaining = remainder::rem_euclid(phase, period);
     let mut index = first_above(cycle, 0);
@@ -91,11 +99,13 @@ pub fn start_of(cycle: &[f32], phase: f32, period: f32) -> Pos
         index = next_above(cycle, index);
     }
     let left = float::max(cycle[index] - remaining, 0.0);
-    Pos {
+    let drawing = index % 2 == 0;
+    let pos = Pos {
         index,
         left,
-        drawing: index % 2 == 0,
-    }
+        drawing,
+    };
+    Start { cycle, pos }
 }
 
 // Exactly nothing is left of the interval: less than nothing is not exactly.

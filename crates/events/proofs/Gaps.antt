@@ -5,7 +5,7 @@ use native.Mathlib.Omega.{arith}
 use native.Mathlib.Nat.{mod-lt}
 use mathlib.Core.Bool.{Bool, true, false, not, ◌||◌, true≢false}
 use mathlib.Core.List.{List, [], ◌∷◌, ◌++◌, append_assoc, cons≢nil}
-use lib.ListN.{length, get_or, drop, length-drop}
+use lib.ListN.{length, drop, length-drop}
 use lib.Seq.{get_or-drop}
 use lib.Dec.{eqb, leb}
 use lib.Ieee.{Float, nan, le}
@@ -24,7 +24,6 @@ use Rattle.events.specs.Walk.{Place, place, inside, resting, nothing_left, turne
 use Rattle.events.specs.Drawn.{drawn}
 use Rattle.events.proofs.Loops.{traced_ind}
 use Rattle.events.proofs.Turns.{next_index, first_index, above_in, both_left, both_second}
-use Rattle.vec2.proofs.Lists.{drop-next}
 use Rattle.events.proofs.Source.{or_first, or_rest}
 
 -- ---- which are above 0

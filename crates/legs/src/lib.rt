@@ -49,9 +49,8 @@ pub fn rested_at(g: Leg, p: Pos, t: f32) -> Pos
     ensures { result ≡ rested g p t }
 {
     Pos {
-        index: p.index,
         left: p.left - (g.length - t),
-        drawing: p.drawing,
+        ..p
     }
 }
 

@@ -19,6 +19,8 @@ use Rattle.strokes.specs.Pen.{told_all, TakesAll, Unless, Laws, all_events}
 use Rattle.strokes.proofs.Pens.{takes_first, part_over, part_on, part_left}
 use Rattle.vec2.proofs.Lists.{drop-next}
 use Rattle.outline.specs.Ends.{Ordered}
+use Rattle.std.specs.Coded.{Unit-prop}
+use Rattle.std.proofs.Props.{props}
 
 -- ---- points in a part of the floats
 
@@ -41,6 +43,13 @@ points_part from e fs h =
 
 drop-on : {A : Type 0} (from e : ℕ) (l : List A) → from ≤ e → drop (e - from) (drop from l) ≡ drop e l
 drop-on from e l h = let d : from + (e - from) ≡ e = omega arith in drop-drop (e - from) from l ∙ ap (λ (k : ℕ). drop k l) d
+
+-- ---- ends in order
+
+-- a fact with at most one proof
+pub Ordered-prop : (n from : ℕ) (es : List ℕ) → IsProp (Ordered n from es)
+Ordered-prop n from [] = Unit-prop
+Ordered-prop n from (e ∷ es) = Prim.hlevel (props, Ordered-prop n e es)
 
 -- ---- polylines
 

@@ -11,6 +11,7 @@ ghost use Rattle.events.specs.Walk.{nothing_left, turned, place, cut_from, passe
 ghost use Rattle.strokes.specs.Lengths.{KeptLengths};
 ghost use Rattle.strokes.specs.Pen.{told_all, TakesAll, Unless, Led, Laws};
 
+use cycle::Start;
 use events::{Leg, Pos};
 use vec2::Vec2;
 
@@ -149,27 +150,28 @@ fn pass_leg<P: Pen>(
     w
 }
 
-// Walks a polyline, with the pen up at first. It stops where the pen is full.
+// Walks a polyline, with the pen up at first. It stops where the pen is full. It is a call of its own, so that the loop inside a segment has the registers.
+#[inline(never)]
 pub fn walk_polyline<P: Pen>(
     points: &[f32],
     lengths: &[f32],
-    cycle: &[f32],
-    start: Pos,
+    start: Start<'_>,
     pen: P,
     verbs: &mut [u8],
     floats: &mut [f32],
 ) -> P
-    requires { (start.index < length cycle.now) × KeptLengths lengths.now points.now × (P.full (P.on pen verbs.old floats.old) ≡ false)
-        × TakesAll P.told P.full P.takes (P.on pen verbs.old floats.old) (Nothing ∷ walk_polyline cycle.now start (points_in points.now)) }
-    ensures { Unless P.full (told_all P.told (P.on pen verbs.old floats.old) (Nothing ∷ walk_polyline cycle.now start (points_in points.now)))
+    requires { KeptLengths lengths.now points.now × (P.full (P.on pen verbs.old floats.old) ≡ false)
+        × TakesAll P.told P.full P.takes (P.on pen verbs.old floats.old) (Nothing ∷ walk_polyline start.cycle.now start.pos (points_in points.now)) }
+    ensures { Unless P.full (told_all P.told (P.on pen verbs.old floats.old) (Nothing ∷ walk_polyline start.entry.cycle.now start.entry.pos (points_in points.now)))
         (P.on result verbs.new floats.new) }
 {
     let mut w = Walked {
-        pos: start,
+        pos: start.pos,
         pen: pen.lift(),
     };
     for k in 1..points.len() / 2 {
-        w = pass_leg(cycle, legs::leg_to(points, lengths, k), w, verbs, floats);
+        let g = legs::leg_to(points, lengths, k);
+        w = pass_leg(start.cycle, g, w, verbs, floats);
         if w.pen.is_full() {
             return w.pen;
         }

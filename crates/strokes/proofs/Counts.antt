@@ -9,16 +9,12 @@ use lib.ListN.{length, length-append}
 use lib.Dec.{ltb, leb}
 use borrow.Author.Tests.{ltb-true, ltb-false, lt-ltb, le-leb, lt-leb}
 use Rattle.vec2.specs.declared.Vec2.{Vec2}
-use Rattle.events.specs.declared.Pos.{Pos}
-use Rattle.events.specs.declared.Leg.{Leg}
 use Rattle.events.specs.declared.Event.{Event}
 use Rattle.events.specs.declared.Event.TheVariants.{Nothing, Cut, Reach, Pass}
-use lib.Ieee.{Float}
-use Rattle.events.specs.Walk.{inside, resting}
 use Rattle.events.specs.Drawn.{down_to, drawn}
 use Rattle.strokes.specs.declared.Tip.{Tip}
 use Rattle.strokes.specs.Pen.{told_all, TakesAll, Unless, draws, begun_at, Laws}
-use Rattle.strokes.specs.Count.{tally_stroke, tally_cut, tally_rest, tally_event, tally, Count, count_event, count_begin, is_over, Counts, CountsBegin}
+use Rattle.strokes.specs.Count.{tally_stroke, tally_event, tally, Count, count_event, count_begin, is_over, Counts, CountsBegin}
 use Rattle.strokes.proofs.Pens.{full_is}
 
 -- ---- what is counted is what is drawn
@@ -39,22 +35,6 @@ tally_drawn k (Reach a c ∷ es) =
     ∙ stroke_count k.down k.at (length (drawn true es)) a c
     ∙ ap (λ (n : ℕ). k.at + n) (sym (length-append (down_to k.down a c) (drawn true es)))
 tally_drawn k (Pass c ∷ es) = tally_drawn (record { at = k.at; down = false }) es
-
--- ---- an event by whether the walk is drawing
-
-pub cut_counts : (g : Leg) (p : Pos) (t : Float) (k : Tip) → tally_event k (inside g p t) ≡ tally_cut p.drawing k
-cut_counts g p t k = go p.drawing
-  where
-    go : (d : Bool) → tally_event k (inside g (record { index = p.index; left = p.left; drawing = d }) t) ≡ tally_cut d k
-    go true = refl
-    go false = refl
-
-pub rest_counts : (g : Leg) (p : Pos) (t : Float) (k : Tip) → tally_event k (resting g p t) ≡ tally_rest p.drawing k
-rest_counts g p t k = go p.drawing
-  where
-    go : (d : Bool) → tally_event k (resting g (record { index = p.index; left = p.left; drawing = d }) t) ≡ tally_rest d k
-    go true = refl
-    go false = refl
 
 -- ---- counting is a pen
 

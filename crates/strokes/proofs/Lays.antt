@@ -1,9 +1,9 @@
 -- Laying events step by step lays the segments that they draw, and laying is a pen. Assumes nothing.
 use mathlib.Core.Path.{◌≡◌, refl, sym, ◌∙◌, ap, subst}
-use Prim.Native.Nat.{ℕ, suc, ◌+◌, ◌*◌, ◌<◌}
+use Prim.Native.Nat.{ℕ, suc, ◌+◌, ◌*◌}
 use native.Mathlib.Omega.{arith}
 use native.Mathlib.Nat.{add-zero}
-use mathlib.Core.Bool.{Bool, true, false, true≢false}
+use mathlib.Core.Bool.{Bool, true, false}
 use mathlib.Core.List.{List, [], ◌∷◌, ◌++◌, append_assoc}
 use lib.ListN.{length, length-append, length-set}
 use lib.Ieee.{Float}
@@ -84,15 +84,6 @@ walk_points cs start [] = refl
 walk_points cs start (p ∷ ps) = points_behind (drawn false (walk_polyline cs start p)) _ (drawn_points false (walk_polyline cs start p)) (walk_points cs _ ps)
 
 -- ---- room
-
-module _ (n m : ℕ) (o : Out) (a z : Vec2) where
-  pub room_one : (d : Bool) → d ≡ true → Room n m (stroke d o a z) → (o.at < n) × (2 * o.used + 1 < m)
-  room_one true h r = (omega (arith, r.0), omega (arith, r.1))
-  room_one false h r = absurd (true≢false (sym h))
-
-  pub room_two : (d : Bool) → d ≡ false → Room n m (stroke d o a z) → (o.at + 1 < n) × (2 * (o.used + 1) + 1 < m)
-  room_two true h r = absurd (true≢false h)
-  room_two false h r = (omega (arith, r.0), omega (arith, r.1))
 
 -- what is laid first has room where all has
 room_front : (n m : ℕ) (o : Out) (ss : List Segment) → Room n m (laid o ss) → Room n m o

@@ -65,15 +65,11 @@ begins_with a (Cut b z) es = refl
 begins_with a (Reach b c) es = refl
 begins_with a (Pass c) es = refl
 
--- ---- a leg that is walked, or passed over
+-- ---- a leg that is walked
 
 pub did : (b : Bool) (cs : List Float) (g : Leg) (p : Pos) → b ≡ true → cut_leg (nothing_left p) cs g p ≡ passed b cs g p
 did true cs g p h = refl
 did false cs g p h = absurd (true≢false (sym h))
-
-pub did_not : (b : Bool) (cs : List Float) (g : Leg) (p : Pos) → b ≡ false → record { events = []; pos = p } ≡ passed b cs g p
-did_not true cs g p h = absurd (true≢false h)
-did_not false cs g p h = refl
 
 -- ---- a pen that is full, or not
 
@@ -275,10 +271,6 @@ module _ {S : Type 0} {told : S → Event → S} {begun : S → Vec2 → Bool �
           walked = λ n. l.walked n ∙ ap (λ (z : Pos). (cut_from cs g (place z f0)).pos) ep ∙ goes_by b;
           indexed = l.indexed;
         }
-
-  -- a leg that is passed over
-  pub passed_over : (n : ℕ) (s : S) (p : Pos) → p.index < n → Led told full n s (record { events = []; pos = p }) s p
-  passed_over n s p h = record { led = through refl; walked = λ m. refl; indexed = h }
 
   -- ---- a polyline
 

@@ -11,11 +11,12 @@ ghost use Rattle.strokes.specs.Pen.{told_all, TakesAll, Unless, all_events};
 ghost use Rattle.polyline.specs.Polylines.{polylines};
 ghost use Rattle.strokes.specs.Lengths.{KeptLengths};
 ghost use Rattle.outline.specs.Ends.{Ordered};
+ghost use Rattle.outline.proofs.Ends.{Ordered-prop};
 ghost use Rattle.outline.specs.Answer.{answer_of};
 ghost use Rattle.outline.specs.Dash.{walked, Cap, cut_outcome, scratch_outcome};
 
 use counting::Counting;
-use events::Pos;
+use cycle::Start;
 use laying::Laying;
 use outline::{Dashed, Outline};
 use path::{FillRule, Refusal};
@@ -29,30 +30,36 @@ fn room(verbs: usize, floats: usize) -> usize
     verbs.min(floats / 2).min(path::MAX_VERBS)
 }
 
+// What is walked: the polylines that the scratch keeps, each from the end of the one before it to its own, and the lengths of the first legs.
+#[derive(Clone, Copy)]
+struct Lines<'a> {
+    points: &'a [f32],
+    ends: &'a [usize],
+    lengths: &'a [f32],
+    ghost ordered: { Ordered (length points.now) 0 ends.now } by { Ordered-prop (length points.now) 0 ends.now },
+    ghost kept: { KeptLengths lengths.now points.now },
+}
+
 // Walks each polyline in turn, the phase starting anew. It stops where the pen is full.
 fn walk_all<P: Pen>(
-    points: &[f32],
-    lengths: &[f32],
-    ends: &[usize],
-    cycle: &[f32],
-    start: Pos,
+    lines: Lines<'_>,
+    start: Start<'_>,
     pen: P,
     verbs: &mut [u8],
     floats: &mut [f32],
 ) -> P
-    requires { (start.index < length cycle.now) × Ordered (length points.now) 0 ends.now × KeptLengths lengths.now points.now
-        × (P.full (P.on pen verbs.old floats.old) ≡ false)
-        × TakesAll P.told P.full P.takes (P.on pen verbs.old floats.old) (all_events cycle.now start (polylines 0 (points_in points.now) ends.now)) }
-    ensures { Unless P.full (told_all P.told (P.on pen verbs.old floats.old) (all_events cycle.now start (polylines 0 (points_in points.now) ends.now)))
-        (P.on result verbs.new floats.new) }
+    requires { (P.full (P.on pen verbs.old floats.old) ≡ false) × TakesAll P.told P.full P.takes (P.on pen verbs.old floats.old)
+        (all_events start.cycle.now start.pos (polylines 0 (points_in lines.points.now) lines.ends.now)) }
+    ensures { Unless P.full (told_all P.told (P.on pen verbs.old floats.old)
+        (all_events start.entry.cycle.now start.entry.pos (polylines 0 (points_in lines.entry.points.now) lines.entry.ends.now))) (P.on result verbs.new floats.new) }
 {
     let mut pen = pen;
     let mut from = 0usize;
-    for end in ends {
+    for end in lines.ends {
         let end = *end;
-        let these = &points[2 * from..2 * end];
-        let kept = lengths.get(from..).unwrap_or_default();
-        pen = pen::walk_polyline(these, kept, cycle, start, pen, verbs, floats);
+        let points = &lines.points[2 * from..2 * end];
+        let lengths = lines.lengths.get(from..).unwrap_or_default();
+        pen = pen::walk_polyline(points, lengths, start, pen, verbs, floats);
         if pen.is_full() {
             return pen;
         }
@@ -62,70 +69,51 @@ fn walk_all<P: Pen>(
 }
 
 // Whether the walks of all polylines lay no more verbs than the cap. Counting stops over it, so that a fine pattern on a long path is refused at once.
-fn is_within(
-    points: &[f32],
-    lengths: &[f32],
-    ends: &[usize],
-    cycle: &[f32],
-    start: Pos,
-    cap: usize,
-) -> bool
-    requires { (start.index < length cycle.now) × (cap < 2 ^ 61) × Ordered (length points.now) 0 ends.now × KeptLengths lengths.now points.now }
-    ensures { result ≡ leb (length (walked cycle.now start (points_in points.now) ends.now)) cap }
+fn is_within(lines: Lines<'_>, start: Start<'_>, cap: usize) -> bool
+    requires { cap < 2 ^ 61 }
+    ensures { result ≡ leb (length (walked start.entry.cycle.now start.entry.pos (points_in lines.entry.points.now) lines.entry.ends.now)) cap }
 {
     let tip = Tip { at: 0, down: false };
     let none = Counting { tip, cap };
-    let all = walk_all(points, lengths, ends, cycle, start, none, &mut [], &mut []);
+    let all = walk_all(lines, start, none, &mut [], &mut []);
     !all.is_full()
 }
 
 // Lays what the walks of all polylines draw. Answers how many verbs are laid.
-fn lay_all(
-    points: &[f32],
-    lengths: &[f32],
-    ends: &[usize],
-    cycle: &[f32],
-    start: Pos,
-    verbs: &mut [u8],
-    floats: &mut [f32],
-) -> usize
-    requires { (start.index < length cycle.now) × Ordered (length points.now) 0 ends.now × KeptLengths lengths.now points.now
-        × Room (length verbs.old) (length floats.old) (laid (out verbs.old floats.old 0) (walked cycle.now start (points_in points.now) ends.now)) }
+fn lay_all(lines: Lines<'_>, start: Start<'_>, verbs: &mut [u8], floats: &mut [f32]) -> usize
+    requires { Room (length verbs.old) (length floats.old)
+        (laid (out verbs.old floats.old 0) (walked start.cycle.now start.pos (points_in lines.points.now) lines.ends.now)) }
     ensures { out verbs.new floats.new result
-        ≡ laid (out verbs.old floats.old 0) (walked cycle.now start (points_in points.now) ends.now) }
+        ≡ laid (out verbs.old floats.old 0) (walked start.entry.cycle.now start.entry.pos (points_in lines.entry.points.now) lines.entry.ends.now) }
 {
     let tip = Tip { at: 0, down: false };
     let none = Laying { tip };
-    let all = walk_all(points, lengths, ends, cycle, start, none, verbs, floats);
+    let all = walk_all(lines, start, none, verbs, floats);
     all.tip.at
 }
 
-// Counts what the polylines give, and lays it where it fits, by the lengths of the first legs.
+// Counts what the polylines give, and lays it where it fits.
 fn cut_by(
-    points: &[f32],
-    lengths: &[f32],
-    ends: &[usize],
-    cycle: &[f32],
-    start: Pos,
+    lines: Lines<'_>,
+    start: Start<'_>,
     held: usize,
     rule: FillRule,
     verbs: &mut [u8],
     floats: &mut [f32],
 ) -> Result<Dashed, Refusal>
-    requires { (start.index < length cycle.now) × Ordered (length points.now) 0 ends.now × KeptLengths lengths.now points.now }
     ensures { cut_outcome (answer_of result) verbs.new floats.new
-        ≡ scratch_outcome cycle.now start points.now ends.now held rule verbs.old floats.old }
+        ≡ scratch_outcome start.entry.cycle.now start.entry.pos lines.entry.points.now lines.entry.ends.now held rule verbs.old floats.old }
 {
     let cap = room(verbs.len(), floats.len());
-    if !is_within(points, lengths, ends, cycle, start, cap) {
+    if !is_within(lines, start, cap) {
         return Err(Refusal::OutputFull);
     }
-    let m = lay_all(points, lengths, ends, cycle, start, verbs, floats);
+    let m = lay_all(lines, start, verbs, floats);
     let o = Outline {
         verbs: m,
         points: m,
-        scratch: points.len() / 2,
-        polylines: ends.len(),
+        scratch: lines.points.len() / 2,
+        polylines: lines.ends.len(),
         held,
         rule,
     };
@@ -141,20 +129,24 @@ const MANY_LENGTHS: usize = 8192;
 fn cut_keeping<const KEPT: usize>(
     points: &[f32],
     ends: &[usize],
-    cycle: &[f32],
-    start: Pos,
+    start: Start<'_>,
     held: usize,
     rule: FillRule,
     verbs: &mut [u8],
     floats: &mut [f32],
 ) -> Result<Dashed, Refusal>
-    requires { (KEPT < 2 ^ 61) × (start.index < length cycle.now) × Ordered (length points.now) 0 ends.now }
+    requires { (KEPT < 2 ^ 61) × Ordered (length points.now) 0 ends.now }
     ensures { cut_outcome (answer_of result) verbs.new floats.new
-        ≡ scratch_outcome cycle.now start points.now ends.now held rule verbs.old floats.old }
+        ≡ scratch_outcome start.entry.cycle.now start.entry.pos points.now ends.now held rule verbs.old floats.old }
 {
     let mut kept = [0.0f32; KEPT];
     legs::keep_lengths(points, &mut kept);
-    cut_by(points, &kept, ends, cycle, start, held, rule, verbs, floats)
+    let lines = Lines {
+        points,
+        ends,
+        lengths: &kept,
+    };
+    cut_by(lines, start, held, rule, verbs, floats)
 }
 
 // Counts and lays. The length of a leg takes a root, so lengths are kept from the counting to the laying: few on a short path, which then does not pay
@@ -162,21 +154,20 @@ fn cut_keeping<const KEPT: usize>(
 fn cut_all(
     points: &[f32],
     ends: &[usize],
-    cycle: &[f32],
-    start: Pos,
+    start: Start<'_>,
     held: usize,
     rule: FillRule,
     verbs: &mut [u8],
     floats: &mut [f32],
 ) -> Result<Dashed, Refusal>
-    requires { (start.index < length cycle.now) × Ordered (length points.now) 0 ends.now }
+    requires { Ordered (length points.now) 0 ends.now }
     ensures { cut_outcome (answer_of result) verbs.new floats.new
-        ≡ scratch_outcome cycle.now start points.now ends.now held rule verbs.old floats.old }
+        ≡ scratch_outcome start.entry.cycle.now start.entry.pos points.now ends.now held rule verbs.old floats.old }
 {
     if points.len() <= 2 * FEW_LENGTHS {
-        return cut_keeping::<FEW_LENGTHS>(points, ends, cycle, start, held, rule, verbs, floats);
+        return cut_keeping::<FEW_LENGTHS>(points, ends, start, held, rule, verbs, floats);
     }
-    cut_keeping::<MANY_LENGTHS>(points, ends, cycle, start, held, rule, verbs, floats)
+    cut_keeping::<MANY_LENGTHS>(points, ends, start, held, rule, verbs, floats)
 }
 
 // Cuts what the scratch keeps. Where no drawn interval is above 0 nothing is drawn, and nothing is walked: a fine gap on a long path would take very many
@@ -208,5 +199,5 @@ pub fn cut_scratch(
     }
     let period = pattern::sum_of(cycle);
     let start = cycle::start_of(cycle, phase, period);
-    cut_all(points, ends, cycle, start, held, rule, verbs, floats)
+    cut_all(points, ends, start, held, rule, verbs, floats)
 }

@@ -1,5 +1,5 @@
 -- `one_above` meets its contract. Assumes nothing.
-use Rattle.std.proofs.Common.{rules, ◌≡◌, ℕ, ◌*◌, ◌<◌, Bool, true, false, length}
+use Rattle.std.proofs.Common.{rules, ◌≡◌, ℕ, ◌*◌, ◌<◌, true, false, length}
 use Rattle.std.proofs.iter.runs.Made.{chains}
 use Rattle.events.specs.Zeros.{zero_at}
 use Rattle.events.proofs.Gaps.{one_of}

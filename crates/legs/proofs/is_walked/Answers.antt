@@ -1,7 +1,6 @@
 -- `is_walked` meets its contract. Assumes nothing.
 use mathlib.Core.Path.{sym, subst}
 use lib.Dec.{T}
-use lib.Ieee.{binary32, fits}
 use Rattle.float.proofs.Count.{above_of_test, none_of_test}
 use Rattle.strokes.proofs.Positive.{above_walks, none_walks}
 use Rattle.legs.proofs.is_walked.Goals as goal

@@ -9,32 +9,32 @@ loop-k-init g c =
     let a = c.args in
     let m = g.P.Pen in
     let up = m.told (m.on a.pen a.verbs.now a.floats.now) Nothing in
-    let free = g.met.P.Pen.laws.lifted (m.on a.pen a.verbs.now a.floats.now) ∙ c.requires.2 in
-    let first = line_start g.met.P.Pen.laws a.cycle.now a.points.now a.start up (c.requires.3.1 free) free c.requires.0 in
-    subst (λ (z : m.State). Line m.told m.full m.takes a.cycle.now a.points.now a.start up 1 z a.start) (sym (c.lift.ensures _ _)) first
+    let free = g.met.P.Pen.laws.lifted (m.on a.pen a.verbs.now a.floats.now) ∙ c.requires.1 in
+    let first = line_start g.met.P.Pen.laws a.start.cycle.now a.points.now a.start.pos up (c.requires.2.1 free) free a.start.indexed in
+    subst (λ (z : m.State). Line m.told m.full m.takes a.start.cycle.now a.points.now a.start.pos up 1 z a.start.pos) (sym (c.lift.ensures _ _)) first
 
 pub pass_leg-w-requires : goal.pass_leg-w-requires
 pass_leg-w-requires g c =
     let a = c.args in
     let l = c.loop-k in
-    (l.invariant.indexed, l.invariant.free, line_taken g.met.P.Pen.laws a.cycle.now a.points.now l.k _ l.w.pos l.invariant c.loop-k-test.true _ c.leg_to.ensures)
+    (l.invariant.indexed, l.invariant.free, line_taken g.met.P.Pen.laws a.start.cycle.now a.points.now l.k _ l.w.pos l.invariant c.loop-k-test.true _ c.leg_to-g.ensures)
 
 pub returns-then-is_full : goal.returns-then-is_full
 returns-then-is_full g c =
     let a = c.args in
     let l = c.loop-k in
     let w = c.pass_leg-w in
-    line_over g.met.P.Pen.laws a.cycle.now a.points.now l.k _ l.w.pos l.invariant c.loop-k-test.true _ c.leg_to.ensures _ w.result.pos w.ensures (sym (c.is_full.ensures _ _) ∙ c.if-is_full.true)
+    line_over g.met.P.Pen.laws a.start.cycle.now a.points.now l.k _ l.w.pos l.invariant c.loop-k-test.true _ c.leg_to-g.ensures _ w.result.pos w.ensures (sym (c.is_full.ensures _ _) ∙ c.if-is_full.true)
 
 pub loop-k-preserved : goal.loop-k-preserved
 loop-k-preserved g c =
     let a = c.args in
     let l = c.loop-k in
     let w = c.pass_leg-w in
-    line_on g.met.P.Pen.laws a.cycle.now a.points.now l.k _ l.w.pos l.invariant c.loop-k-test.true _ c.leg_to.ensures _ w.result.pos w.ensures (sym (c.is_full.ensures _ _) ∙ c.if-is_full.false)
+    line_on g.met.P.Pen.laws a.start.cycle.now a.points.now l.k _ l.w.pos l.invariant c.loop-k-test.true _ c.leg_to-g.ensures _ w.result.pos w.ensures (sym (c.is_full.ensures _ _) ∙ c.if-is_full.false)
 
 pub returns : goal.returns
 returns g c =
     let a = c.args in
     let l = c.loop-k in
-    line_end g.met.P.Pen.laws a.cycle.now a.points.now l.k _ l.w.pos l.invariant c.loop-k-test.false
+    line_end g.met.P.Pen.laws a.start.cycle.now a.points.now l.k _ l.w.pos l.invariant c.loop-k-test.false

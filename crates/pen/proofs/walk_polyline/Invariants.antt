@@ -6,4 +6,4 @@ use Rattle.pen.proofs.walk_polyline.Given as goal
 abbrev pub invariant-loop-k : goal.invariant-loop-k
 invariant-loop-k g l =
     let m = g.P.Pen in
-    Line m.told m.full m.takes l.fn.cycle l.fn.points l.fn.start (m.told (m.on l.fn.pen l.fn.verbs l.fn.floats) Nothing) l.k (m.on l.w.pen l.verbs l.floats) l.w.pos
+    Line m.told m.full m.takes l.fn.start.cycle.now l.fn.points l.fn.start.pos (m.told (m.on l.fn.pen l.fn.verbs l.fn.floats) Nothing) l.k (m.on l.w.pen l.verbs l.floats) l.w.pos

@@ -2,6 +2,8 @@
 use mathlib.Core.Path.{sym, ◌∙◌, ap}
 use Prim.Native.Nat.{◌/◌}
 use lib.ListN.{length}
+use lib.Ieee.{Float}
+use mathlib.Core.List.{List}
 use Rattle.float.specs.Arith.{f0}
 use Rattle.vec2.specs.Points.{points_in}
 use Rattle.polyline.specs.Polylines.{polylines}
@@ -21,14 +23,11 @@ returns-then-gaps_only c =
     cut_none (walked cs (start_of cs a.phase (sum_from f0 cs)) ps a.ends.now)
     (nothing_drawn cs (sym c.gaps_only.ensures ∙ c.if-gaps_only.true) a.phase (sum_from f0 cs) (polylines 0 ps a.ends.now)) (length a.points.now / 2) (length a.ends.now) a.held a.rule _ _
 
-pub start_of-start-requires : goal.start_of-start-requires
-start_of-start-requires c = c.requires.0
-
-pub cut_all-requires : goal.cut_all-requires
-cut_all-requires c = (c.start_of-start.ensures.indexed, c.requires.1)
-
 pub returns : goal.returns
 returns c =
     let a = c.args in
-    let e = c.start_of-start.ensures.started ∙ ap (start_of a.cycle.now a.phase) c.sum_of-period.ensures in
-    c.cut_all.ensures ∙ ap (λ (p : Pos). scratch_outcome a.cycle.now p a.points.now a.ends.now a.held a.rule a.verbs.now a.floats.now) e
+    let s = c.start_of-start.ensures in
+    let out = λ (cs : List Float) (p : Pos). scratch_outcome cs p a.points.now a.ends.now a.held a.rule a.verbs.now a.floats.now in
+    c.cut_all.ensures
+    ∙ ap (λ (cs : List Float). out cs c.start_of-start.result.pos) s.1
+    ∙ ap (out a.cycle.now) (s.0 ∙ ap (start_of a.cycle.now a.phase) c.sum_of-period.ensures)

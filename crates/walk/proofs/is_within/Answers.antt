@@ -16,12 +16,12 @@ use Rattle.strokes.proofs.Lays.{all_drawn}
 use Rattle.walk.proofs.is_within.Goals as goal
 
 pub walk_all-all-requires : goal.walk_all-all-requires
-walk_all-all-requires c = (c.requires.0, c.requires.2, c.requires.3, le-ltb _ _ (omega arith), counts_all _ _ c.requires.1 (omega arith))
+walk_all-all-requires c = (le-ltb _ _ (omega arith), counts_all _ _ c.requires (omega arith))
 
 pub returns : goal.returns
 returns c =
-    let a = c.args in
-    let ps = polylines 0 (points_in a.points.now) a.ends.now in
+    let s = c.args.start in
+    let ps = polylines 0 (points_in c.args.lines.points.now) c.args.lines.ends.now in
     ap not (c.is_full.ensures [] [])
-    ∙ count_fits _ _ (all_events a.cycle.now a.start ps) c.walk_all-all.ensures
-    ∙ ap (λ (n : ℕ). leb n a.cap) (zero-add _ ∙ ap length (all_drawn a.cycle.now a.start ps false))
+    ∙ count_fits _ _ (all_events s.cycle.now s.pos ps) c.walk_all-all.ensures
+    ∙ ap (λ (n : ℕ). leb n c.args.cap) (zero-add _ ∙ ap length (all_drawn s.cycle.now s.pos ps false))

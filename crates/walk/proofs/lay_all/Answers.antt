@@ -12,16 +12,18 @@ use Rattle.walk.proofs.lay_all.Goals as goal
 pub walk_all-all-requires : goal.walk_all-all-requires
 walk_all-all-requires c =
     let a = c.args in
-    let ps = polylines 0 (points_in a.points.now) a.ends.now in
-    let es = all_events a.cycle.now a.start ps in
+    let s = a.start in
+    let ps = polylines 0 (points_in a.lines.points.now) a.lines.ends.now in
+    let es = all_events s.cycle.now s.pos ps in
     let first = sheet a.verbs.now a.floats.now (record { at = 0; down = false }) in
-    let e = lay_drawn first es ∙ ap (laid first.page) (all_drawn a.cycle.now a.start ps false) in
-    (c.requires.0, c.requires.1, c.requires.2, refl, lays_all first es (subst (Room (length a.verbs.now) (length a.floats.now)) (sym e) c.requires.3))
+    let e = lay_drawn first es ∙ ap (laid first.page) (all_drawn s.cycle.now s.pos ps false) in
+    (refl, lays_all first es (subst (Room (length a.verbs.now) (length a.floats.now)) (sym e) c.requires))
 
 pub returns : goal.returns
 returns c =
     let a = c.args in
-    let ps = polylines 0 (points_in a.points.now) a.ends.now in
-    let es = all_events a.cycle.now a.start ps in
+    let s = a.start in
+    let ps = polylines 0 (points_in a.lines.points.now) a.lines.ends.now in
+    let es = all_events s.cycle.now s.pos ps in
     let first = sheet a.verbs.now a.floats.now (record { at = 0; down = false }) in
-    ap (λ (s : Sheet). s.page) (c.walk_all-all.ensures.exact refl) ∙ lay_drawn first es ∙ ap (laid first.page) (all_drawn a.cycle.now a.start ps false)
+    ap (λ (z : Sheet). z.page) (c.walk_all-all.ensures.exact refl) ∙ lay_drawn first es ∙ ap (laid first.page) (all_drawn s.cycle.now s.pos ps false)

@@ -1,5 +1,5 @@
 -- `walk_all` meets its contract. Assumes nothing.
-use Rattle.std.proofs.Common.{◌≡◌, sym, ◌∙◌, ap, ℕ, List, [], length, drop, Option, None, Some, Bor, arith, length-drop, inl, inr}
+use Rattle.std.proofs.Common.{◌≡◌, refl, sym, ◌∙◌, ap, ℕ, List, [], length, drop, Option, None, Some, Bor, arith, length-drop, inl, inr}
 use Rattle.std.proofs.lemmas.List.{take_all}
 use Rattle.std.proofs.Math.ListN.{drop_of_length-le}
 use Rattle.std.specs.Slice.{IsGetRangeResult}
@@ -15,26 +15,31 @@ rest_of : (xs : List Float) (from : ℕ) (r : Option (Bor (List Float))) (x : Bo
 rest_of xs from None x g u = u ∙ sym (drop_of_length-le xs (elim g.0 [ inl l ↦ omega arith | inr l ↦ absurd (omega arith) ]))
 rest_of xs from (Some y) x g u = ap (λ (z : Bor (List Float)). z.now) u ∙ g.0.2 ∙ take_all _ _ (omega (arith, length-drop from xs))
 
+pub loop-end-init : goal.loop-end-init
+loop-end-init g c = record { same = refl; taken = c.requires.1; free = c.requires.0; ordered = c.args.lines.ordered; inside = omega arith }
+
 pub walk_polyline-pen-requires : goal.walk_polyline-pen-requires
 walk_polyline-pen-requires g c =
-    let a = c.args in
+    let s = c.args.start in
+    let a = c.args.lines in
     let l = c.loop-end in
-    let o = in_order a.cycle.now a.start a.points.now g.met.P.Pen.laws l.from l.end-index _ c.loop-end-test.true l.invariant in
-    let e = rest_of a.lengths.now l.from _ _ c.get.ensures.lookup c.unwrap_or_default-kept.ensures in (
-      c.requires.0,
-      rw e (kept_part a.points.now l.from _ o.0 o.1 a.lengths.now c.requires.2),
+    let o = in_order s.cycle.now s.pos a.points.now g.met.P.Pen.laws l.from l.end-index _ c.loop-end-test.true l.invariant in
+    let e = rest_of a.lengths.now l.from _ _ c.get.ensures.lookup c.unwrap_or_default-lengths.ensures in (
+      rw e (kept_part a.points.now l.from _ o.0 o.1 a.lengths.now a.kept),
       l.invariant.free,
-      one_taken a.cycle.now a.start a.points.now g.met.P.Pen.laws l.from l.end-index _ c.loop-end-test.true l.invariant,
+      one_taken s.cycle.now s.pos a.points.now g.met.P.Pen.laws l.from l.end-index _ c.loop-end-test.true l.invariant,
     )
 
 pub returns-then-is_full : goal.returns-then-is_full
 returns-then-is_full g c =
-    let a = c.args in
+    let s = c.args.start in
+    let a = c.args.lines in
     let l = c.loop-end in
-    one_over a.cycle.now a.start a.points.now g.met.P.Pen.laws l.from l.end-index _ c.loop-end-test.true l.invariant _ c.walk_polyline-pen.ensures (sym (c.is_full.ensures _ _) ∙ c.if-is_full.true)
+    one_over s.cycle.now s.pos a.points.now g.met.P.Pen.laws l.from l.end-index _ c.loop-end-test.true l.invariant _ c.walk_polyline-pen.ensures (sym (c.is_full.ensures _ _) ∙ c.if-is_full.true)
 
 pub loop-end-preserved : goal.loop-end-preserved
 loop-end-preserved g c =
-    let a = c.args in
+    let s = c.args.start in
+    let a = c.args.lines in
     let l = c.loop-end in
-    one_on a.cycle.now a.start a.points.now g.met.P.Pen.laws l.from l.end-index _ c.loop-end-test.true l.invariant _ c.walk_polyline-pen.ensures (sym (c.is_full.ensures _ _) ∙ c.if-is_full.false)
+    one_on s.cycle.now s.pos a.points.now g.met.P.Pen.laws l.from l.end-index _ c.loop-end-test.true l.invariant _ c.walk_polyline-pen.ensures (sym (c.is_full.ensures _ _) ∙ c.if-is_full.false)

@@ -6,4 +6,5 @@ use Rattle.walk.proofs.walk_all.Given as goal
 abbrev pub invariant-loop-end : goal.invariant-loop-end
 invariant-loop-end g l =
     let m = g.P.Pen in
-    Polylines l.fn.cycle l.fn.start l.fn.points m.told m.full m.takes l.fn.ends (m.on l.fn.pen l.fn.verbs l.fn.floats) l.from (drop l.end-index l.fn.ends) (m.on l.pen l.verbs l.floats)
+    let f = l.fn in
+    Polylines f.start.cycle.now f.start.pos f.lines.points.now m.told m.full m.takes f.lines.ends.now (m.on f.pen f.verbs f.floats) l.from (drop l.end-index f.lines.ends.now) (m.on l.pen l.verbs l.floats)
