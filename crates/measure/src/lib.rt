@@ -98,13 +98,7 @@ pub fn measure(path: &Path<'_>, tolerance: f32) -> Tally
     ensures small { Small max_verbs result }
 {
     let mut g = Gauge {
-        sum: Tally {
-            starts: 0,
-            lines: 0,
-            counts: 0,
-            closings: 0,
-            held: 0,
-        },
+        sum: Tally::default(),
         spot: spot::start_of_path(),
     };
     for s in path.segments() {

@@ -27,7 +27,7 @@ pub struct Spot {
 }
 
 // The totals that a segment adds to.
-#[derive(Clone, Copy)]
+#[derive(Clone, Copy, Default)]
 pub struct Tally {
     pub starts: usize,
     pub lines: usize,

@@ -23,9 +23,9 @@ use Rattle.curve.proofs.Numbers.{counted}
 use Rattle.polyline.specs.declared.Spot.{Spot}
 use Rattle.polyline.specs.Flatten.{nowhere, close_adds, after, stops, only_if, places, steps, curved, body, writes, written, endings, points_out, ends_out}
 use Rattle.polyline.specs.Pass.{marks_from, close_before}
-use Rattle.write.specs.Write.{begun, last_closes, last_mark, Wrote, Ended}
+use Rattle.write.specs.Write.{begun, inner_points, last_closes, last_mark, Wrote, Ended}
 use Rattle.polyline.specs.Subpaths.{mark, marks_out}
-use Rattle.polyline.proofs.Points.{length-steps}
+use Rattle.polyline.proofs.Points.{length-steps, the_end}
 use Rattle.polyline.proofs.Lengths.{length-only_if}
 use Rattle.polyline.proofs.Subpaths.{marks_are}
 use Rattle.polyline.proofs.Pass.{close_read}
@@ -45,9 +45,11 @@ wrote_two {l} {m} {n} {a} {b} {c} {ps} {qs} p q =
 long_curved : (eval : Float → Vec2) (n : ℕ) (p : Vec2) → 1 ≤ n → length (curved eval n p) ≡ n
 long_curved eval n p h = omega (arith, h, length-append (steps (λ i. eval (param i n)) 1 (pred n)) (p ∷ []), length-steps (λ i. eval (param i n)) 1 (pred n))
 
-pub wrote_curve : (w : Spot) (eval : Float → Vec2) (n : ℕ) (p : Vec2) → 1 ≤ n → {l m o : List Float} {a b : ℕ} →
-    Wrote l m a b (only_if (not w.drawn) w.start) → o ≡ sets m (2 * b) (flat (curved eval n p)) → Wrote l o a (b + n) (begun w (curved eval n p))
-wrote_curve w eval n p h start curve = wrote_two start (record { stored = curve; moved = rw (long_curved eval n p h) })
+pub wrote_curve : (w : Spot) (eval : Float → Vec2) (n : ℕ) (p : Vec2) → 1 ≤ n → {l m o q : List Float} {a b : ℕ} →
+    Wrote l m a b (only_if (not w.drawn) w.start) → o ≡ sets m (2 * b) (flat (inner_points eval n)) → q ≡ sets o (2 * (b + n - 1)) (flat (p ∷ [])) →
+    Wrote l q a (b + n) (begun w (curved eval n p))
+wrote_curve w eval n p h {m} {o} {q} {b} start inner end =
+    wrote_two start (record { stored = the_end m o q b (pred n) eval n inner p (omega (arith, h)) end; moved = rw (long_curved eval n p h) })
 
 -- what a drawn segment writes
 pub record Draws (ps : List Vec2) (w : Spot) (eval : Float → Vec2) (n : ℕ) (p : Vec2) : Type 0 where

@@ -1,16 +1,21 @@
 -- What the writing promises: points, ends and marks stored one behind the other. Definitions only.
-use Rattle.std.specs.Prelude.{◌≡◌, ℕ, ◌+◌, ◌*◌, Bool, not, List, ◌++◌, length, Float}
+use Rattle.std.specs.Prelude.{◌≡◌, ℕ, pred, ◌+◌, ◌*◌, Bool, not, List, ◌++◌, length, Float}
 use Rattle.std.proofs.lemmas.List.Edits.{sets}
 use Rattle.vec2.specs.declared.Vec2.{Vec2}
 use Rattle.vec2.specs.Points.{flat}
 use Rattle.polyline.specs.declared.Spot.{Spot}
-use Rattle.polyline.specs.Flatten.{only_if}
+use Rattle.curve.specs.Count.{param}
+use Rattle.polyline.specs.Flatten.{only_if, steps}
 use Rattle.polyline.specs.Pass.{close_before}
 use Rattle.polyline.specs.Subpaths.{mark}
 
 -- a drawn segment's points, behind the polyline's start where that is not written yet
 abbrev pub begun : Spot → List Vec2 → List Vec2
 begun w ps = only_if (not w.drawn) w.start ++ ps
+
+-- a curve's points without its end
+abbrev pub inner_points : (Float → Vec2) → ℕ → List Vec2
+inner_points eval n = steps (λ i. eval (param i n)) 1 (pred n)
 
 -- what a curve's calls return is what eval gives
 abbrev pub Evaluates : (Float → Vec2 → Type 0) → (Float → Vec2) → Type 0

@@ -1,4 +1,5 @@
-// The points, ends and marks of a flattening, written into buffers that are known to hold them.
+// The points, ends and marks of a flattening, written into buffers that are known to hold them. Buffers and the places in them stay arguments: with a struct that
+// holds a `&mut`, each function would have to promise that the struct keeps that very reference.
 #![tactic(auto)]
 
 ghost use Rattle.std.specs.Prelude.{◌≡◌, ◌+◌, ◌*◌, ◌≤◌, not, length, Float};
@@ -8,7 +9,7 @@ ghost use Rattle.vec2.specs.Points.{flat};
 ghost use Rattle.path.specs.Segment.{segments};
 ghost use Rattle.polyline.specs.Subpaths.{marks_out};
 ghost use Rattle.polyline.specs.Flatten.{drawn_to, after, only_if, curved, writes, points_out, ends_out};
-ghost use Rattle.write.specs.Write.{begun, Evaluates, last_mark, Wrote, Ended};
+ghost use Rattle.write.specs.Write.{begun, inner_points, Evaluates, last_mark, Wrote, Ended};
 
 use path::Segment;
 use polyline::{Spot, Trace};
@@ -27,21 +28,20 @@ fn put_if(out: &mut [f32], at: usize, wanted: bool, p: Vec2) -> usize
     at
 }
 
-// Writes the points of a curve of n lines, from point `at` on: the inner ones, and the end, copied.
-fn write_curve<F: Fn(f32) -> Vec2>(out: &mut [f32], at: usize, curve: F, n: u16, p: Vec2)
+// Writes the inner points of a curve of n lines, from point `at` on. A function of its own in the machine too: the compiler then works out x and y side by side.
+#[inline(never)]
+fn write_inner<F: Fn(f32) -> Vec2>(out: &mut [f32], at: usize, curve: F, n: u16)
     requires callable { F.IsAlwaysCallable curve }
     requires room { (1 ≤ n) × (n ≤ 1000) × (2 * (at + n) ≤ length out.old) }
-    ensures { (eval : Float → Vec2) → Evaluates (F.post curve) eval → out.new ≡ sets out.old (2 * at) (flat (curved eval n p)) }
+    ensures { (eval : Float → Vec2) → Evaluates (F.post curve) eval → out.new ≡ sets out.old (2 * at) (flat (inner_points eval n)) }
 {
     let whole = n as f32;
     for i in 1..n {
-        let q = curve(i as f32 / whole);
-        vec2::put(out, at + i as usize - 1, q);
+        vec2::put(out, at + i as usize - 1, curve(i as f32 / whole));
     }
-    vec2::put(out, at + n as usize - 1, p);
 }
 
-// Writes a drawn segment of n lines, behind its polyline's start where that is not written yet. A line is a curve of one.
+// Writes a drawn segment of n lines, behind its polyline's start where that is not written yet: the inner points, and the end, copied. A line is a curve of one.
 fn draw<F: Fn(f32) -> Vec2>(out: &mut [f32], at: usize, w: Spot, curve: F, n: u32, p: Vec2) -> Trace
     requires callable { F.IsAlwaysCallable curve }
     requires count { (1 ≤ n) × (n ≤ 1000) }
@@ -50,9 +50,11 @@ fn draw<F: Fn(f32) -> Vec2>(out: &mut [f32], at: usize, w: Spot, curve: F, n: u3
     ensures spot { result.spot ≡ drawn_to w p }
 {
     let first = put_if(out, at, !w.drawn, w.start);
-    write_curve(out, first, curve, n as u16, p);
+    write_inner(out, first, curve, n as u16);
+    let next = first + n as usize;
+    vec2::put(out, next - 1, p);
     Trace {
-        at: first + n as usize,
+        at: next,
         spot: spot::drawn_to(w, p),
     }
 }
@@ -70,14 +72,21 @@ fn write_segment(out: &mut [f32], at: usize, tolerance: f32, w: Spot, s: Segment
             at,
             spot: spot::move_to(p),
         },
-        Segment::Line(p) => draw(out, at, w, |_| p, 1, p),
+        Segment::Line(p) => draw(out, at, w, move |_| p, 1, p),
         Segment::Quad(c, p) => {
             let n = wang::quad_segment_count(pen, c, p, tolerance).count;
-            draw(out, at, w, |t| curve::eval_quad(pen, c, p, t), n, p)
+            draw(out, at, w, move |t| curve::eval_quad(pen, c, p, t), n, p)
         }
         Segment::Cubic(c, d, p) => {
             let n = wang::cubic_segment_count(pen, c, d, p, tolerance).count;
-            draw(out, at, w, |t| curve::eval_cubic(pen, c, d, p, t), n, p)
+            draw(
+                out,
+                at,
+                w,
+                move |t| curve::eval_cubic(pen, c, d, p, t),
+                n,
+                p,
+            )
         }
         Segment::Close => Trace {
             at: put_if(out, at, spot::close_adds(w), w.start),
