@@ -37,6 +37,7 @@ pub fn eval_quad(p0: Vec2, p1: Vec2, p2: Vec2, t: f32) -> Vec2
     }
 }
 
+// The same of a cubic, by its own sums.
 pub fn eval_cubic(p0: Vec2, p1: Vec2, p2: Vec2, p3: Vec2, t: f32) -> Vec2
     ensures { result ≡ eval_cubic p0 p1 p2 p3 t }
 {

@@ -63,7 +63,8 @@ fn cut(
     )
 }
 
-// Cuts a path into the drawn pieces of a dash pattern.
+// Cuts a path into the drawn pieces of a dash pattern. Path, pattern, scratch and dash buffers come apart, as C lends them: a struct of lent slices would have
+// to promise of each what it holds afterwards, field by field, as the clause does now in one line.
 pub fn dash_path(
     verbs: &[u8],
     points: &[f32],

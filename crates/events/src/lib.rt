@@ -3,7 +3,7 @@
 
 use vec2::Vec2;
 
-// Where the walk is in the cycle. `left` is what is left of the interval at `index`.
+// Where the walk is in the cycle, as the source keeps it: whether it draws stands beside the index that tells it. `left` is what is left of the interval at `index`.
 #[derive(Clone, Copy)]
 pub struct Pos {
     pub index: usize,

@@ -12,7 +12,7 @@ use polyline::Flattened;
 use segments::Path;
 
 // Flattens a path into points, end to end, the number of points at which each polyline ends, and its mark: 1 if the last verb of its subpath is a close,
-// even where no closing point was added, else 0.
+// even where no closing point was added, else 0. The outputs are lent apart, as C lends them.
 pub fn flatten(
     verbs: &[u8],
     points: &[f32],

@@ -118,7 +118,7 @@ const STYLES: [&[f32]; 9] = [
     &[24.0, 8.0],
 ];
 
-// The points that a verb uses; none for a byte that is no verb.
+// The points that a verb uses; none for a byte that is no verb. A verb is a byte of the lent buffer, the form that C shares; `Segment` is what it is read as.
 pub fn point_count(verb: u8) -> usize
     ensures { (result ≡ used verb) × (result ≤ 3) }
 {
@@ -183,7 +183,8 @@ pub fn check_points(points: &[f32]) -> Result<(), Refusal>
     Ok(())
 }
 
-// Whether a path is taken: what is wrong with it first, in this order.
+// Whether a path is taken: what is wrong with it first, in this order. The calls take any two slices, as C hands them in, and refuse; `segments::Path` is what
+// this check lets pass.
 #[tactic(auto, unfolding(crate::specs::Check::check))]
 pub fn check(verbs: &[u8], points: &[f32]) -> Result<(), Refusal>
     ensures { result ≡ check verbs.now points.now }

@@ -57,7 +57,7 @@ pub fn is_usable(intervals: &[f32], phase: f32) -> bool
         && float::is_finite(phase)
 }
 
-// The working cycle: an even number of intervals, and room for as many as a pattern laid twice has.
+// The working cycle: an even number of intervals, and room for as many as a pattern laid twice has. The array is the scope's form, and there is no heap.
 #[derive(Drop)]
 pub struct Cycle {
     values: [f32; MAX_CYCLE],

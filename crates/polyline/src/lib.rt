@@ -17,7 +17,8 @@ pub struct Flattened {
 }
 
 // Where a flattening stands: the latest move's point, with which its polyline begins; the point that the next verb is drawn from; the point written
-// last, or the move's point before the first drawn verb; and whether the polyline has a drawn verb, so that its start is written.
+// last, or the move's point before the first drawn verb; and whether the polyline has a drawn verb, so that its start is written. The points
+// stand either way: no Option would say the flag plainer.
 #[derive(Clone, Copy)]
 pub struct Spot {
     pub start: Vec2,

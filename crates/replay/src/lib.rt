@@ -301,7 +301,7 @@ fn play_one<const N: usize, K: Kind<N>>(
 
 // ---- the whole list
 
-// Plays the calls that stand next, of this kind; of a byte that is no kind, nothing.
+// Plays the calls that stand next, of this kind; of a byte that is no kind, nothing. A list comes as bytes, since C makes it.
 fn play_kind(r: Run, kind: u8, list: CallList, verbs: &mut [u8], points: &mut [f32]) -> Run
     requires { Next kind list.kinds.now list.numbers.now r }
     ensures { Ran list.entry.kinds.now list.entry.numbers.now r verbs.old points.old result verbs.new points.new }
@@ -340,6 +340,7 @@ pub fn replay(kinds: &[u8], numbers: &[f32], verbs: &mut [u8], points: &mut [f32
         refused: 0,
         state: PathBuilder::new(),
     };
+    // no `for`: a turn plays as many calls as are of one kind
     while let Some(&kind) = list.kinds.get(r.calls) {
         let i = r.calls;
         r = play_kind(r, kind, list, verbs, points);

@@ -32,7 +32,8 @@ pub fn point_count(s: Segment) -> usize
     path::point_count(s.verb())
 }
 
-// Where the builder stands: so many verbs and points are laid, and whether a segment is.
+// Where the builder stands: so many verbs and points are laid, and whether a segment is. A state that is handed in may have the flag at odds with the counts,
+// and is refused for it: no Option could say that.
 #[derive(Clone, Copy)]
 pub struct Standing {
     pub verbs: usize,

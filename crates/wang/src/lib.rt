@@ -40,7 +40,7 @@ fn quad_s(p0: Vec2, p1: Vec2, p2: Vec2, tolerance: f32) -> f32
     m / slack_of(tolerance)
 }
 
-// The same for a cubic.
+// The same for a cubic: another formula, of two second differences.
 fn cubic_s(p0: Vec2, p1: Vec2, p2: Vec2, p3: Vec2, tolerance: f32) -> f32
     ensures { result ≡ cubic_s tolerance p0 p1 p2 p3 }
 {
