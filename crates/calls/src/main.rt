@@ -1,393 +1,270 @@
 // Builder calls played: the paper's conic of 64 quads, full buffers, one short of each size, the limits, an odd float buffer, states that 7 meets.
-// Standard input has the calls, in lines of 83 bytes: a name that a colon ends, at place 39 a letter, and from place 40 on six fields of 7 bytes, each a
-// sign and a number. A line `B` lends buffers, from a byte to a byte and from a float to a float of those that all calls share, to the lines behind it,
-// and says how many these are. Small letters are calls: `m` move, `l` line, `q` quad, `k` conic, `c` cubic, `z` close. `H` hands in a state: its counts,
-// whether it is started, and the pen; `N` is a fresh one. `R` sets the fill rule and `A` the rounded rectangle; `P` and `T` ask for the point and the
-// rectangle; `S` shows the buffers from a byte and a float on, and `Y` one byte and one float.
-// A line is written for each answer: its number, a conic's quads, both counts, whether it is started, the latest move's point and the pen.
+// Standard input has the calls, in lines of 82 letters: a name that a colon ends, at place 39 a letter, and from place 40 on six fields of 7 letters,
+// each a sign and a number. A line `B` lends buffers, from a byte to a byte and from a float to a float of those that all calls share, to a fresh
+// builder and the lines behind it. Small letters are calls: `m` move, `l` line, `q` quad, `k` conic, `c` cubic, `z` close. `H` hands in a state: its
+// counts, whether it is started, and the pen; `N` is a fresh one. `R` sets the fill rule and `A` the rounded rectangle; `P` and `T` ask for the point
+// and the rectangle; `S` shows the buffers from a byte and a float on, and `Y` one byte and one float.
+// A line is written for each call with a name: its number, a conic's quads, both counts, whether it is started, the latest move's point and the pen.
 #![tactic(auto)]
 
-ghost use Rattle.std.specs.Prelude.{◌≤◌};
-
-use builder::{CurrentPoint, Note, PathBuilder, Reply};
+use builder::{Call, PathBuilder, Reply, RoundedRect};
+use common::YesNo;
 use path::FillRule;
 use rect::Rect;
-use std::io;
-use std::io::{BufReader, ErrorKind, Read};
+use std::io::{BufRead, BufReader, ErrorKind};
+use std::{fmt, io};
 use vec2::Vec2;
 
-// ---- reading
+// ---- the list
 
-// Fills `text` from the input, and answers whether the input had as much.
-fn read_full(input: &mut impl Read, text: &mut [u8]) -> io::Result<bool> {
-    match input.read_exact(text) {
-        Ok(()) => Ok(true),
-        Err(e) if e.kind() == ErrorKind::UnexpectedEof => Ok(false),
-        Err(e) => Err(e),
-    }
-}
+// The fields of a line that are still to be read. What is blank, or is not there, is 0.
+#[derive(Clone, Copy)]
+struct Fields<'a>(&'a str);
 
-fn char_at(line: &[u8], i: usize) -> u8 {
-    if i < line.len() {
-        return line[i];
-    }
-    b' '
-}
-
-fn digit(b: u8) -> u16
-    ensures { result ≤ 9 }
-{
-    if b < b'0' {
-        return 0;
-    }
-    if b'9' < b {
-        return 0;
-    }
-    (b - b'0') as u16
-}
-
-// The number of two digits at i; a space is a 0.
-fn pair(line: &[u8], i: usize) -> u16
-    requires { i ≤ 100 }
-    ensures { result ≤ 99 }
-{
-    let a = digit(char_at(line, i));
-    let b = digit(char_at(line, i + 1));
-    10 * a + b
-}
-
-// The whole number of the field at i.
-fn whole(line: &[u8], i: usize) -> usize
-    requires { i ≤ 90 }
-    ensures { result ≤ 999999 }
-{
-    let a = pair(line, i + 1) as usize;
-    let b = pair(line, i + 3) as usize;
-    let c = pair(line, i + 5) as usize;
-    10000 * a + 100 * b + c
-}
-
-// The float of the field at i: `nan`, or a whole number under 10,000 with its sign.
-fn float_at(line: &[u8], i: usize) -> f32
-    requires { i ≤ 90 }
-{
-    if char_at(line, i + 6) == b'n' {
-        return 0.0 / 0.0;
-    }
-    let n = 100 * pair(line, i + 3) + pair(line, i + 5);
-    if char_at(line, i) == b'-' {
-        return -1.0 * n as f32;
-    }
-    n as f32
-}
-
-fn point_at(line: &[u8], i: usize) -> Vec2
-    requires { i ≤ 80 }
-{
-    let x = float_at(line, i);
-    let y = float_at(line, i + 7);
-    Vec2 { x, y }
-}
-
-// ---- writing
-
-fn word(rt: &impl Print, w: &[u8]) -> io::Result<()> {
-    rt.write_all(w)
-}
-
-fn number(rt: &impl Print, n: usize) -> io::Result<()> {
-    word(rt, b" ")?;
-    print!(rt; "{n}")
-}
-
-// A whole number under 100, `nan`, or a dash.
-fn float(rt: &impl Print, x: f32) -> io::Result<()> {
-    if x != x {
-        return word(rt, b" nan");
-    }
-    let mut i = 0u16;
-    while i < 100 {
-        if i as f32 == x {
-            return number(rt, i as usize);
+impl Fields<'_> {
+    // The next field's sign, and its number.
+    fn next(&mut self) -> (&str, &str) {
+        let Some((field, rest)) = self.0.split_at_checked(7) else {
+            return ("", "");
+        };
+        self.0 = rest;
+        match field.split_at_checked(1) {
+            Some((sign, number)) => (sign, number.trim()),
+            None => ("", ""),
         }
-        i += 1;
     }
-    word(rt, b" -")
-}
 
-fn flag(rt: &impl Print, b: bool) -> io::Result<()> {
-    if b {
-        word(rt, b" yes")
-    } else {
-        word(rt, b" no")
+    fn count(&mut self) -> usize {
+        let (_, number) = self.next();
+        number.parse().unwrap_or(0)
     }
-}
 
-fn state(rt: &impl Print, b: PathBuilder) -> io::Result<()> {
-    word(rt, b" verbs")?;
-    number(rt, b.verbs)?;
-    word(rt, b" points")?;
-    number(rt, b.points)?;
-    word(rt, b" started")?;
-    flag(rt, b.started)?;
-    word(rt, b" start")?;
-    float(rt, b.start_x)?;
-    float(rt, b.start_y)?;
-    word(rt, b" pen")?;
-    float(rt, b.pen_x)?;
-    float(rt, b.pen_y)?;
-    word(rt, b"\n")
-}
-
-// The name of a line.
-fn name(rt: &impl Print, line: &[u8]) -> io::Result<()> {
-    let mut i: usize = 0;
-    while i < line.len() {
-        let c = line[i];
-        if c == b':' {
-            return Ok(());
+    fn part(&mut self) -> Part {
+        Part {
+            start: self.count(),
+            end: self.count(),
         }
-        let one = [c; 1];
-        word(rt, &one)?;
-        i += 1;
     }
-    Ok(())
-}
 
-// Nothing of a line without a name.
-fn show(rt: &impl Print, line: &[u8], r: Reply) -> io::Result<()> {
-    if char_at(line, 0) == b' ' {
-        return Ok(());
+    fn float(&mut self) -> f32 {
+        let (sign, number) = self.next();
+        let x = number.parse().unwrap_or(0.0);
+        if sign == "-" { -x } else { x }
     }
-    let b = r.state;
-    name(rt, line)?;
-    word(rt, b": refused")?;
-    number(rt, r.refused as usize)?;
-    word(rt, b" quads")?;
-    number(rt, r.quads)?;
-    state(rt, b)
-}
 
-fn byte(rt: &impl Print, v: u8) -> io::Result<()> {
-    number(rt, v as usize)
-}
-
-// The bytes from the place `start` on.
-fn bytes(rt: &impl Print, verbs: &[u8], start: usize) -> io::Result<()> {
-    word(rt, b"  verbs")?;
-    let mut i = start;
-    while i < verbs.len() {
-        byte(rt, verbs[i])?;
-        i += 1;
+    fn point(&mut self) -> Vec2 {
+        Vec2::new(self.float(), self.float())
     }
-    word(rt, b"\n")
-}
 
-fn floats(rt: &impl Print, points: &[f32], start: usize) -> io::Result<()> {
-    word(rt, b"  floats")?;
-    let mut i = start;
-    while i < points.len() {
-        float(rt, points[i])?;
-        i += 1;
+    fn rect(&mut self) -> Rect {
+        Rect::new(self.point(), self.point())
     }
-    word(rt, b"\n")
 }
 
-// Byte 1 and float 5 of the buffers.
-fn sample(rt: &impl Print, verbs: &[u8], points: &[f32]) -> io::Result<()> {
-    word(rt, b"  byte 1")?;
-    byte(rt, char_at(verbs, 1))?;
-    word(rt, b" float 5")?;
-    if 5 < points.len() {
-        float(rt, points[5])?;
+#[derive(Clone, Copy)]
+struct Line<'a> {
+    name: Option<&'a str>,
+    letter: &'a str,
+    fields: Fields<'a>,
+}
+
+impl<'a> Line<'a> {
+    fn parse(text: &'a str) -> Option<Line<'a>> {
+        let (head, fields) = text.split_at_checked(40)?;
+        let (name, letter) = head.split_at_checked(39)?;
+        Some(Line {
+            name: name.split_once(':').map(|(name, _)| name),
+            letter,
+            fields: Fields(fields),
+        })
     }
-    word(rt, b"\n")
-}
 
-fn point(rt: &impl Print, b: PathBuilder) -> io::Result<()> {
-    match b.current_point() {
-        CurrentPoint::At(x, y) => {
-            word(rt, b"current point")?;
-            float(rt, x)?;
-            float(rt, y)?;
+    fn call(self) -> Option<Call> {
+        let mut fields = self.fields;
+        match self.letter {
+            "m" => Some(Call::MoveTo(fields.point())),
+            "l" => Some(Call::LineTo(fields.point())),
+            "q" => Some(Call::QuadTo(fields.point(), fields.point())),
+            "k" => Some(Call::ConicTo(fields.point(), fields.point(), fields.float())),
+            "c" => Some(Call::CubicTo(fields.point(), fields.point(), fields.point())),
+            "z" => Some(Call::Close),
+            "R" => Some(Call::WithFillRule(FillRule::EvenOdd)),
+            "A" => Some(Call::AsRoundedRect(fields.rect(), fields.float())),
+            _ => None,
         }
-        CurrentPoint::Nowhere => word(rt, b"no current point")?,
     }
-    word(rt, b"\n")
 }
-
-fn note(rt: &impl Print, b: PathBuilder) -> io::Result<()> {
-    match b.rounded_rect() {
-        Note::Rounded(r, radius) => {
-            word(rt, b"rounded rectangle")?;
-            float(rt, r.min.x)?;
-            float(rt, r.min.y)?;
-            float(rt, r.max.x)?;
-            float(rt, r.max.y)?;
-            word(rt, b" radius")?;
-            float(rt, radius)?;
-            if 1.0 / radius < 0.0 {
-                word(rt, b" below 0")?;
-            }
-        }
-        Note::Unknown => word(rt, b"no rounded rectangle")?,
-    }
-    word(rt, b"\n")
-}
-
-// ---- a line
 
 // A state as it is handed in.
-fn handed_in(line: &[u8]) -> PathBuilder {
+fn handed_in(line: Line) -> PathBuilder {
+    let mut fields = line.fields;
     let mut b = PathBuilder::new();
-    b.verbs = whole(line, 40);
-    b.points = whole(line, 47);
-    b.started = whole(line, 54) == 1;
-    b.pen_x = float_at(line, 61);
-    b.pen_y = float_at(line, 68);
+    b.verbs = fields.count();
+    b.points = fields.count();
+    b.started = fields.count() == 1;
+    b.pen_x = fields.float();
+    b.pen_y = fields.float();
     b
 }
 
-fn play(b: PathBuilder, line: &[u8], verbs: &mut [u8], points: &mut [f32]) -> Reply {
-    let p = point_at(line, 40);
-    let q = point_at(line, 54);
-    let r = point_at(line, 68);
-    match char_at(line, 39) {
-        b'm' => b.move_to(verbs, points, p),
-        b'l' => b.line_to(verbs, points, p),
-        b'q' => b.quad_to(verbs, points, p, q),
-        b'k' => b.conic_to(verbs, points, p, q, r.x),
-        b'c' => b.cubic_to(verbs, points, p, q, r),
-        _ => b.close(verbs, points),
-    }
-}
+// ---- what is printed
 
-// The state behind a line that is no call.
-fn set(b: PathBuilder, line: &[u8]) -> PathBuilder {
-    match char_at(line, 39) {
-        b'N' => PathBuilder::new(),
-        b'H' => handed_in(line),
-        b'R' => b.with_fill_rule(FillRule::EvenOdd),
-        b'A' => {
-            let area = Rect {
-                min: point_at(line, 40),
-                max: point_at(line, 54),
-            };
-            b.as_rounded_rect(area, float_at(line, 68))
+// A whole number under 100, `nan`, or a dash.
+#[derive(Clone, Copy)]
+struct Number(f32);
+
+impl fmt::Display for Number {
+    fn fmt<W: fmt::Write>(&self, f: &mut fmt::Formatter<W>) -> fmt::Result {
+        if self.0.is_nan() {
+            return write!(f, "nan");
         }
-        _ => b,
-    }
-}
-
-// What a line that is no call asks for.
-fn ask(
-    rt: &impl Print,
-    b: PathBuilder,
-    line: &[u8],
-    verbs: &[u8],
-    points: &[f32],
-) -> io::Result<()> {
-    match char_at(line, 39) {
-        b'P' => point(rt, b),
-        b'T' => note(rt, b),
-        b'S' => {
-            bytes(rt, verbs, whole(line, 40))?;
-            floats(rt, points, whole(line, 47))
+        match common::whole(self.0, 100) {
+            Some(n) => write!(f, "{n}"),
+            None => write!(f, "-"),
         }
-        b'Y' => sample(rt, verbs, points),
-        _ => Ok(()),
     }
 }
 
+#[derive(Clone, Copy)]
+struct Point(Vec2);
+
+impl fmt::Display for Point {
+    fn fmt<W: fmt::Write>(&self, f: &mut fmt::Formatter<W>) -> fmt::Result {
+        write!(f, "{} {}", Number(self.0.x), Number(self.0.y))
+    }
+}
+
+fn print_reply(rt: &impl Print, name: &str, r: Reply) -> io::Result<()> {
+    let b = r.state;
+    let start = Point(Vec2::new(b.start_x, b.start_y));
+    let pen = Point(Vec2::new(b.pen_x, b.pen_y));
+    let (refused, quads) = match r.quads {
+        Ok(quads) => (0, quads),
+        Err(refusal) => (u8::from(refusal), 0),
+    };
+    print!(rt; "{name}: refused {refused} quads {quads}")?;
+    print!(rt;
+        " verbs {} points {} started {}",
+        b.verbs,
+        b.points,
+        YesNo(b.started)
+    )?;
+    println!(rt; " start {start} pen {pen}")
+}
+
+fn print_pen(rt: &impl Print, b: PathBuilder) -> io::Result<()> {
+    match b.current_point() {
+        Some(pen) => println!(rt; "current point {}", Point(pen)),
+        None => println!(rt; "no current point"),
+    }
+}
+
+fn print_note(rt: &impl Print, b: PathBuilder) -> io::Result<()> {
+    let Some(RoundedRect { rect: r, radius }) = b.rounded_rect() else {
+        return println!(rt; "no rounded rectangle");
+    };
+    print!(rt;
+        "rounded rectangle {} {} radius {}",
+        Point(r.min),
+        Point(r.max),
+        Number(radius)
+    )?;
+    // 1 over a zero tells its sign
+    println!(rt; "{}", if 1.0 / radius < 0.0 { " below 0" } else { "" })
+}
+
+// The buffers from a byte and a float on.
+fn print_buffers(rt: &impl Print, line: Line, verbs: &[u8], points: &[f32]) -> io::Result<()> {
+    let mut fields = line.fields;
+    print!(rt; "  verbs")?;
+    for v in verbs.get(fields.count()..).unwrap_or(&[]) {
+        print!(rt; " {v}")?;
+    }
+    print!(rt; "\n  floats")?;
+    for x in points.get(fields.count()..).unwrap_or(&[]) {
+        let x = Number(*x);
+        print!(rt; " {x}")?;
+    }
+    println!(rt;)
+}
+
+fn print_sample(rt: &impl Print, verbs: &[u8], points: &[f32]) -> io::Result<()> {
+    if let Some(v) = verbs.get(1) {
+        print!(rt; "  byte 1 {v}")?;
+    }
+    if let Some(x) = points.get(5) {
+        print!(rt; " float 5 {}", Number(*x))?;
+    }
+    println!(rt;)
+}
+
+// ---- the calls
+
+// Plays a line, and returns the state behind it.
 fn step(
     rt: &impl Print,
+    line: Line,
     b: PathBuilder,
-    line: &[u8],
     verbs: &mut [u8],
     points: &mut [f32],
 ) -> io::Result<PathBuilder> {
-    if char_at(line, 39) < b'a' {
-        ask(rt, b, line, verbs, points)?;
-        return Ok(set(b, line));
-    }
-    let r = play(b, line, verbs, points);
-    show(rt, line, r)?;
-    Ok(r.state)
-}
-
-// The next n lines, on a fresh builder.
-fn scene(
-    rt: &impl Print,
-    input: &mut impl Read,
-    n: usize,
-    verbs: &mut [u8],
-    points: &mut [f32],
-) -> io::Result<()> {
-    let mut line = [0u8; 83];
-    let mut b = PathBuilder::new();
-    let mut i: usize = 0;
-    while i < n {
-        read_full(input, &mut line)?;
-        b = step(rt, b, &line, verbs, points)?;
-        i += 1;
-    }
-    Ok(())
-}
-
-// The lines of one pair of lent buffers.
-fn lend(
-    rt: &impl Print,
-    input: &mut impl Read,
-    line: &[u8],
-    verbs: &mut [u8],
-    points: &mut [f32],
-) -> io::Result<()> {
-    let a = whole(line, 40);
-    let b = whole(line, 47);
-    let c = whole(line, 54);
-    let d = whole(line, 61);
-    if verbs.len() < b {
-        return Ok(());
-    }
-    if points.len() < d {
-        return Ok(());
-    }
-    if b < a {
-        return Ok(());
-    }
-    if d < c {
-        return Ok(());
-    }
-    scene(
-        rt,
-        input,
-        whole(line, 68),
-        &mut verbs[a..b],
-        &mut points[c..d],
-    )
-}
-
-fn run(
-    rt: &impl Print,
-    input: &mut impl Read,
-    verbs: &mut [u8],
-    points: &mut [f32],
-) -> io::Result<()> {
-    let mut line = [0u8; 83];
-    let mut i: usize = 0;
-    while i < 100 {
-        if !read_full(input, &mut line)? {
-            return Ok(());
+    if let Some(call) = line.call() {
+        let reply = common::play(b, call, verbs, points);
+        if let Some(name) = line.name {
+            print_reply(rt, name, reply)?;
         }
-        lend(rt, input, &line, verbs, points)?;
-        i += 1;
+        return Ok(reply.state);
     }
-    Ok(())
+    match line.letter {
+        "N" => return Ok(PathBuilder::new()),
+        "H" => return Ok(handed_in(line)),
+        "P" => print_pen(rt, b)?,
+        "T" => print_note(rt, b)?,
+        "S" => print_buffers(rt, line, verbs, points)?,
+        "Y" => print_sample(rt, verbs, points)?,
+        _ => return Err(ErrorKind::InvalidData.into()),
+    }
+    Ok(b)
+}
+
+// The part of a buffer that is lent.
+#[derive(Clone, Copy)]
+struct Part {
+    start: usize,
+    end: usize,
+}
+
+impl Part {
+    fn of<T>(self, buffer: &mut [T]) -> io::Result<&mut [T]> {
+        buffer
+            .get_mut(self.start..self.end)
+            .ok_or(ErrorKind::InvalidData.into())
+    }
 }
 
 fn main(rt: HostRuntime) -> io::Result<()> {
-    let mut input = BufReader::new(rt.alloc(), rt.reader())?;
-    let mut verbs = [9u8; 65538];
-    let mut points = [7.0f32; 262148];
-    run(&rt, &mut input, &mut verbs, &mut points)
+    let mut verbs = [9; 65538];
+    let mut points = [7.0; 262148];
+    let mut lent_verbs = Part { start: 0, end: 0 };
+    let mut lent_points = Part { start: 0, end: 0 };
+    let mut b = PathBuilder::new();
+    for text in BufReader::new(rt.alloc(), rt.reader())?.lines(rt.alloc()) {
+        let text = text?;
+        let line = Line::parse(text.as_str()).ok_or(ErrorKind::InvalidData)?;
+        if line.letter == "B" {
+            let mut fields = line.fields;
+            lent_verbs = fields.part();
+            lent_points = fields.part();
+            b = PathBuilder::new();
+        } else {
+            b = step(
+                &rt,
+                line,
+                b,
+                lent_verbs.of(&mut verbs)?,
+                lent_points.of(&mut points)?,
+            )?;
+        }
+    }
+    Ok(())
 }

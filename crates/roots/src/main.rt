@@ -3,56 +3,17 @@
 // differs is written out.
 #![tactic(auto)]
 
-ghost use Rattle.std.specs.Prelude.{◌≤◌, ◌<◌};
-
 use std::io;
-use std::io::{BufReader, ErrorKind, Read};
+use std::io::{BufRead, BufReader, ErrorKind};
+use std::num::{f32_from_bits_with_nan, f32_to_bits_with_nan};
 
-// A line: 8, 8 and 4 digits, with a space behind each number but the last.
-const LINE: usize = 23;
-
-fn digit(b: u8) -> u32
-    ensures { result < 16 }
-{
-    if 48 <= b {
-        if b <= 57 {
-            return (b - 48) as u32;
-        }
-    }
-    if 97 <= b {
-        if b <= 102 {
-            return (b - 87) as u32;
-        }
-    }
-    0
-}
-
-// The number that the digits from a up to b say.
-fn number(text: &[u8; 23], a: usize, b: usize) -> u32
-    requires { b ≤ 23 }
-{
-    let mut n: u32 = 0;
-    let mut i = a;
-    while i < b {
-        n = n % 0x1000_0000 * 16 + digit(text[i]);
-        i += 1;
-    }
-    n
-}
-
-// The float of a pattern: every NaN is one here, since `from_bits` takes none.
-fn float_of(b: u32) -> f32 {
-    if 0x7f80_0000 < b % 0x8000_0000 {
-        return 0.0 / 0.0;
-    }
-    f32::from_bits(b)
-}
-
-fn has_pattern(x: f32, b: u32) -> bool {
-    if x != x {
-        return 0x7f80_0000 < b % 0x8000_0000;
-    }
-    f32::to_bits(x) == b
+// What a line says: an operand's bits, those of its root, its count, and whether that was held back.
+#[derive(Clone, Copy)]
+struct Line {
+    operand: u32,
+    root: u32,
+    count: u32,
+    held: bool,
 }
 
 // Whether a line's root, its count and whether that was held back are what the library gives.
@@ -63,60 +24,78 @@ struct Found {
     held: bool,
 }
 
-fn compare(text: &[u8; 23]) -> Found {
-    let x = float_of(number(text, 0, 8));
-    let root = number(text, 9, 17);
-    let told = number(text, 18, 22);
-    let n = count::segment_count(x);
-    Found {
-        root: has_pattern(root::sqrt(x), root),
-        count: n.count == told % 0x8000,
-        held: n.held == (0x8000 <= told),
+// How many lines there are, and of how many the root, the count and whether that was held back are what the library gives.
+#[derive(Clone, Copy)]
+struct Tally {
+    lines: u64,
+    roots: u64,
+    counts: u64,
+    held: u64,
+}
+
+fn hexadecimal(digits: Option<&str>) -> Option<u32> {
+    u32::from_str_radix(digits?, 16).ok()
+}
+
+impl Line {
+    fn parse(text: &str) -> Option<Line> {
+        let mut numbers = text.split(' ');
+        let operand = hexadecimal(numbers.next())?;
+        let root = hexadecimal(numbers.next())?;
+        let told = hexadecimal(numbers.next())?;
+        Some(Line {
+            operand,
+            root,
+            count: told % 0x8000,
+            held: 0x8000 <= told,
+        })
+    }
+
+    // Every NaN is one here.
+    fn compare(self) -> Found {
+        let operand = f32_from_bits_with_nan(self.operand);
+        let answer = count::segment_count(operand);
+        Found {
+            root: f32_to_bits_with_nan(root::sqrt(operand)) == self.root,
+            count: answer.count == self.count,
+            held: answer.held == self.held,
+        }
     }
 }
 
-fn one(b: bool) -> u64
-    ensures { result ≤ 1 }
-{
-    if b { 1 } else { 0 }
-}
-
-// Fills `text` from the input, and answers whether the input had as much.
-fn read_full(input: &mut impl Read, text: &mut [u8]) -> io::Result<bool> {
-    match input.read_exact(text) {
-        Ok(()) => Ok(true),
-        Err(e) if e.kind() == ErrorKind::UnexpectedEof => Ok(false),
-        Err(e) => Err(e),
+impl Found {
+    fn all(self) -> bool {
+        self.root && self.count && self.held
     }
 }
 
-fn say(rt: &impl Print, n: u64, what: &[u8]) -> io::Result<()> {
-    print!(rt; "{n}")?;
-    rt.write_all(what)
+impl Tally {
+    fn add(&mut self, found: Found) {
+        self.lines = self.lines.saturating_add(1);
+        self.roots = self.roots.saturating_add(u64::from(found.root));
+        self.counts = self.counts.saturating_add(u64::from(found.count));
+        self.held = self.held.saturating_add(u64::from(found.held));
+    }
 }
 
 fn main(rt: HostRuntime) -> io::Result<()> {
-    let mut input = BufReader::new(rt.alloc(), rt.reader())?;
-    let mut text = [0u8; LINE];
-    let mut lines: u64 = 0;
-    let mut roots: u64 = 0;
-    let mut counts: u64 = 0;
-    let mut held: u64 = 0;
-    while lines < 1000000 {
-        if !read_full(&mut input, &mut text)? {
-            break;
+    let mut tally = Tally {
+        lines: 0,
+        roots: 0,
+        counts: 0,
+        held: 0,
+    };
+    for text in BufReader::new(rt.alloc(), rt.reader())?.lines(rt.alloc()) {
+        let text = text?;
+        let line = Line::parse(text.as_str()).ok_or(ErrorKind::InvalidData)?;
+        let found = line.compare();
+        if !found.all() {
+            println!(rt; "{text}")?;
         }
-        let found = compare(&text);
-        lines += 1;
-        roots += one(found.root);
-        counts += one(found.count);
-        held += one(found.held);
-        if !(found.root && found.count && found.held) {
-            rt.write_all(&text)?;
-        }
+        tally.add(found);
     }
-    say(&rt, lines, b" operands\n")?;
-    say(&rt, roots, b" roots as the machine's\n")?;
-    say(&rt, counts, b" segment counts as the source's\n")?;
-    say(&rt, held, b" held back or not, as the request has it\n")
+    println!(rt; "{} operands", tally.lines)?;
+    println!(rt; "{} roots as the machine's", tally.roots)?;
+    println!(rt; "{} segment counts as the source's", tally.counts)?;
+    println!(rt; "{} held back or not, as the request has it", tally.held)
 }

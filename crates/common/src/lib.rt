@@ -1,0 +1,69 @@
+// What the programs share: a builder call played, whichever it is, and how answers are told.
+#![tactic(auto)]
+
+ghost use Rattle.std.specs.Prelude.{◌≡◌, pos};
+ghost use Rattle.std.specs.List.{find, range_with_len};
+ghost use Rattle.std.specs.Float.{binary32};
+ghost use Rattle.std.specs.Float.Ieee.{eq, of_int};
+ghost use Rattle.builder.specs.Build.{outcome, called, settled};
+
+use builder::{Call, PathBuilder, Reply};
+use std::fmt;
+use turns::Convexity;
+
+// The answer of a call that takes no buffer, and refuses nothing.
+fn settled(state: PathBuilder) -> Reply
+    ensures { result ≡ settled state }
+{
+    Reply {
+        state,
+        quads: Ok(0),
+    }
+}
+
+// Plays one call.
+#[tactic(auto, unfolding(builder::specs::Build::called))]
+pub fn play(b: PathBuilder, call: Call, verbs: &mut [u8], points: &mut [f32]) -> Reply
+    ensures { outcome result verbs.new points.new ≡ called b verbs.old points.old call }
+{
+    match call {
+        Call::MoveTo(p) => b.move_to(verbs, points, p),
+        Call::LineTo(p) => b.line_to(verbs, points, p),
+        Call::QuadTo(ctrl, to) => b.quad_to(verbs, points, ctrl, to),
+        Call::ConicTo(ctrl, to, weight) => b.conic_to(verbs, points, ctrl, to, weight),
+        Call::CubicTo(c0, c1, to) => b.cubic_to(verbs, points, c0, c1, to),
+        Call::Close => b.close(verbs, points),
+        Call::WithFillRule(rule) => settled(b.with_fill_rule(rule)),
+        Call::AsRoundedRect(rect, radius) => settled(b.as_rounded_rect(rect, radius)),
+    }
+}
+
+// The whole number below `limit` that a float is.
+pub fn whole(x: f32, limit: u16) -> Option<u16>
+    ensures { result ≡ find (λ n. eq (of_int binary32 (pos n)) x) (range_with_len 0 limit) }
+{
+    (0..limit).find(|n| f32::from(*n) == x)
+}
+
+// `Convex` or `Concave`.
+#[derive(Clone, Copy)]
+pub struct Shape(pub Convexity);
+
+impl fmt::Display for Shape {
+    fn fmt<W: fmt::Write>(&self, f: &mut fmt::Formatter<W>) -> fmt::Result {
+        f.write_str(match self.0 {
+            Convexity::Convex => "Convex",
+            Convexity::Concave => "Concave",
+        })
+    }
+}
+
+// `yes` or `no`.
+#[derive(Clone, Copy)]
+pub struct YesNo(pub bool);
+
+impl fmt::Display for YesNo {
+    fn fmt<W: fmt::Write>(&self, f: &mut fmt::Formatter<W>) -> fmt::Result {
+        f.write_str(if self.0 { "yes" } else { "no" })
+    }
+}
