@@ -13,7 +13,7 @@ use Rattle.std.specs.Prelude.{Ok, Err}
 use Rattle.path.specs.declared.Refusal.{Refusal}
 use Rattle.path.specs.declared.Refusal.TheVariants.{OddFloats, OutputFull}
 use Rattle.path.specs.Check.{check}
-use Rattle.segments.specs.Path.{Checked}
+use Rattle.segments.specs.Path.{Parts}
 use Rattle.polyline.specs.declared.Tally.{Tally}
 use Rattle.polyline.specs.Flatten.{nowhere, points_out, ends_out, check_outputs, outcome, flatten}
 use Rattle.measure.specs.Measure.{none, measured}
@@ -41,7 +41,7 @@ module _ (vs : List ℕ) (fs : List Float) (tol : Float) (out : List Float) (es 
     pub bad_path : (x : Refusal) → check vs fs ≡ Err x → outcome (Err x) out es ms ≡ flatten vs fs tol out es ms
     bad_path x h = refuses x (path_refused x h)
 
-    module _ (path : Checked) (h : (check vs fs ≡ Ok tt) × (path ≡ record { verbs = vs; points = fs })) (t : Tally) (m : t ≡ measured tol none nowhere (segments path.verbs path.points)) where
+    module _ (path : Parts) (h : (check vs fs ≡ Ok tt) × (path ≡ record { verbs = vs; points = fs })) (t : Tally) (m : t ≡ measured tol none nowhere (segments path.verbs path.points)) where
       good : check vs fs ≡ Ok tt
       good = h.0
 

@@ -2,7 +2,8 @@
 // after.
 #![tactic(auto)]
 
-ghost use Rattle.std.specs.Prelude.{◌≡◌};
+ghost use Rattle.std.specs.Prelude.{◌≡◌, ◌≤◌, length};
+ghost use Rattle.path.specs.Check.{max_verbs};
 ghost use Rattle.path.specs.Segment.{segments};
 ghost use Rattle.polyline.specs.Flatten.{nowhere, outcome, flatten, count_at, carried_count};
 
@@ -56,6 +57,7 @@ pub fn flatten(
 // The N of the verb at `index` and whether it was held back: 0 and false where that is no curve, or past the end.
 #[tactic(auto, unfolding(polyline::specs::Flatten::count_at))]
 fn count_at(path: &Path<'_>, tolerance: f32, index: usize) -> SegmentCount
+    requires { length path.now.verbs ≤ max_verbs }
     ensures { result ≡ count_at tolerance nowhere (segments path.now.verbs path.now.points) index }
 {
     let mut w = spot::start_of_path();

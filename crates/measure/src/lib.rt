@@ -1,7 +1,7 @@
 // The totals of a flattening, measured before anything is written.
 #![tactic(auto)]
 
-ghost use Rattle.std.specs.Prelude.{◌≡◌, ◌≤◌};
+ghost use Rattle.std.specs.Prelude.{◌≡◌, ◌≤◌, length};
 ghost use Rattle.path.specs.Segment.{segments};
 ghost use Rattle.path.specs.Check.{max_verbs};
 ghost use Rattle.polyline.specs.Flatten.{nowhere, curve_answer};
@@ -94,6 +94,7 @@ fn add_segment(g: Gauge, tolerance: f32, s: Segment) -> Gauge
 // The totals of a whole path.
 #[tactic(auto, unfolding(crate::specs::Measure::measured))]
 pub fn measure(path: &Path<'_>, tolerance: f32) -> Tally
+    requires few { length path.now.verbs ≤ max_verbs }
     ensures same { result ≡ measured tolerance none nowhere (segments path.now.verbs path.now.points) }
     ensures small { Small max_verbs result }
 {

@@ -11,9 +11,7 @@ use Rattle.vec2.specs.Vec2.{vec}
 use Rattle.vec2.specs.Points.{point_at}
 use Rattle.path.specs.declared.Segment.TheVariants.{Move, Line, Quad}
 use Rattle.path.specs.Segment.{used, seg_at, segs_from, segments}
-use Rattle.path.specs.Check.{max_verbs, used_by, check}
-use Rattle.path.proofs.Checks.{sound}
-use Rattle.std.specs.Prelude.{Ok}
+use Rattle.path.specs.Check.{used_by}
 use Rattle.segments.specs.Read.{read}
 
 module _ (fs : List Float) (k : ℕ) where
@@ -51,9 +49,9 @@ pub length-segs : (vs : List ℕ) (fs : List Float) (k : ℕ) → length (segs_f
 length-segs [] fs k = refl
 length-segs (v ∷ vs) fs k = ap suc (length-segs vs fs (k + used v))
 
-module _ (vs : List ℕ) (fs : List Float) (h : check vs fs ≡ Ok tt) where
+module _ (vs : List ℕ) (fs : List Float) (h : 2 * used_by vs ≤ length fs) where
   pub read_all : read vs fs ≡ segments vs fs
-  read_all = read_from vs fs 0 (omega (arith, (sound vs fs h).used))
+  read_all = read_from vs fs 0 (omega (arith, h))
 
-  pub few_read : length (read vs fs) ≤ max_verbs
-  few_read = omega (arith, (sound vs fs h).few, ap length read_all, length-segs vs fs 0)
+  pub few_read : length (read vs fs) ≤ length vs
+  few_read = omega (arith, ap length read_all, length-segs vs fs 0)

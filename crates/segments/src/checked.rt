@@ -1,37 +1,36 @@
-// A path that no number refuses.
+// A path whose points are enough for its verbs.
 ghost use Rattle.std.specs.Prelude.{◌≡◌};
 
 use crate::Segments;
 use path::Refusal;
 use std::marker::Model;
 
-// Verbs and points that the check let pass.
+// Verbs, and points enough for all of them. The fields are open: whoever has shown the fact may write the struct, without the check.
 #[derive(Drop)]
 pub struct Path<'a> {
-    verbs: &'a [u8],
-    points: &'a [f32],
+    pub verbs: &'a [u8],
+    pub points: &'a [f32],
 }
 
 impl<'a> Model for Path<'a> {
-    ghost use Rattle.std.specs.Prelude.{◌≡◌, Ok};
-    ghost use Rattle.path.specs.Check.{check};
-    ghost use Rattle.segments.specs.Path.{Checked};
+    ghost use Rattle.std.specs.Prelude.{◌*◌, ◌≤◌, length};
+    ghost use Rattle.path.specs.Check.{used_by};
+    ghost use Rattle.segments.specs.Path.{Parts};
 
-    ghost Value = { Checked };
+    ghost Value = { Parts };
 
     ghost view = { λ p. record { verbs = p.verbs.now; points = p.points.now } };
 
-    ghost invariant = { λ p. check p.verbs.now p.points.now ≡ Ok tt };
+    ghost invariant = { λ p. 2 * used_by p.verbs.now ≤ length p.points.now };
 }
 
 impl<'a> Path<'a> {
     ghost use Rattle.std.specs.Prelude.{◌≤◌, length};
-    ghost use Rattle.path.specs.Check.{max_verbs};
     ghost use Rattle.path.specs.Segment.{segments};
     ghost use Rattle.segments.specs.Path.{checked};
     ghost use Rattle.segments.specs.Read.{left};
 
-    // The path, or what refuses it.
+    // The path, where the check lets it pass, or what refuses it.
     pub fn new(verbs: &'a [u8], points: &'a [f32]) -> Result<Path<'a>, Refusal>
         ensures { result ≡ checked verbs.now points.now }
     {
@@ -48,7 +47,7 @@ impl<'a> Path<'a> {
     // All of its segments: no verb lacks points.
     pub fn segments(&self) -> Segments<'a>
         ensures all { left result ≡ segments self.now.verbs self.now.points }
-        ensures few { length (left result) ≤ max_verbs }
+        ensures few { length (left result) ≤ length self.now.verbs }
     {
         Segments::new(self.verbs, self.points)
     }

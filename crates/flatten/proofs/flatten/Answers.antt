@@ -1,11 +1,14 @@
 use Rattle.std.proofs.Common.{sym, ◌∙◌}
 use Rattle.std.proofs.lemmas.Result.{err_from_is_err_and}
-use Rattle.segments.proofs.Answer.{passed, refused}
+use Rattle.segments.proofs.Answer.{passed, refused, few}
 use Rattle.flatten.proofs.Call.{odd_out, bad_path, few_points, few_ends, few_marks, has_room, done}
 use Rattle.flatten.proofs.flatten.Goals as goal
 
 pub returns-then-out-eq1 : goal.returns-then-out-eq1
 returns-then-out-eq1 c = let a = c.args in odd_out a.verbs.now a.points.now a.tolerance _ _ _ c.if-out-eq1.true
+
+pub measure-t-requires : goal.measure-t-requires
+measure-t-requires c = record { few = few _ _ _ (sym c.new.ensures ∙ c.in_ok-path.was) }
 
 pub returns-then-out-n : goal.returns-then-out-n
 returns-then-out-n c =

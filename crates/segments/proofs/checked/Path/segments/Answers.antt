@@ -6,4 +6,4 @@ pub returns-clause-all : goal.returns-clause-all
 returns-clause-all c = c.new.ensures ∙ rw (← c.self.view_is) (read_all _ _ c.self.invariant)
 
 pub returns-clause-few : goal.returns-clause-few
-returns-clause-few c = rw c.new.ensures (few_read _ _ c.self.invariant)
+returns-clause-few c = rw (c.new.ensures, ← c.self.view_is) (few_read _ _ c.self.invariant)
