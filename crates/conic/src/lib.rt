@@ -72,13 +72,14 @@ fn level_weight(weight: f32, levels: &mut [Option<f32>; 6], k: usize) -> f32
 
 const QUAD: u8 = 2;
 
-// Lays the points of a half's quad from point p on.
-fn put_quad(h: [[f32; 2]; 3], points: &mut [f32], p: usize) -> usize
-    requires { 2 * p + 4 ≤ length points.old }
-    ensures { Put (Quad (ctrl_of h) (to_of h) ∷ []) result points.old (2 * p) points.new }
+// Lays the points of a half's quad from f on.
+fn put_quad(h: [[f32; 2]; 3], points: &mut [f32], f: usize) -> usize
+    requires { f + 4 ≤ length points.old }
+    ensures { Put (Quad (ctrl_of h) (to_of h) ∷ []) result points.old f points.new }
 {
-    vec2::put(points, p, ctrl_of(h));
-    vec2::put(points, p + 1, to_of(h));
+    let ctrl = ctrl_of(h);
+    let to = to_of(h);
+    points[f..f + 4].copy_from_slice(&[ctrl.x, ctrl.y, to.x, to.y]);
     1
 }
 
@@ -90,31 +91,31 @@ fn push_half(
     levels: &mut [Option<f32>; 6],
     k: usize,
     points: &mut [f32],
-    p: usize,
+    f: usize,
 ) -> usize
-    requires { (k ≤ 6) × (2 * p + 4 * 2 ^ k ≤ length points.old) × Levels k weight levels.old }
-    ensures { Put (pieces k h weight) result points.old (2 * p) points.new × KeptLevels k weight levels.old levels.new }
+    requires { (k ≤ 6) × (f + 4 * 2 ^ k ≤ length points.old) × Levels k weight levels.old }
+    ensures { Put (pieces k h weight) result points.old f points.new × KeptLevels k weight levels.old levels.new }
 {
     if is_quad(h, weight, k) {
-        return put_quad(h, points, p);
+        return put_quad(h, points, f);
     }
     let left = left_half(h, weight);
     let right = right_half(h, weight);
     let u = level_weight(weight, levels, k);
-    let l = push_half(left, u, levels, k - 1, points, p);
-    let r = push_half(right, u, levels, k - 1, points, p + 2 * l);
+    let l = push_half(left, u, levels, k - 1, points, f);
+    let r = push_half(right, u, levels, k - 1, points, f + 4 * l);
     l + r
 }
 
-// Lays the points of a conic's quads from point p on, and says how many quads they are.
+// Lays the points of a conic's quads from float f on, and says how many quads they are.
 #[tactic(auto, using(halves::proofs::Pieces::pieces_quads))]
-pub fn push_points(c: Conic, points: &mut [f32], p: usize) -> usize
-    requires { 2 * p + 4 * most_quads ≤ length points.old }
-    ensures { Put (quads_of c) result points.old (2 * p) points.new }
+pub fn push_points(c: Conic, points: &mut [f32], f: usize) -> usize
+    requires { f + 4 * most_quads ≤ length points.old }
+    ensures { Put (quads_of c) result points.old f points.new }
 {
     let mut levels = known_levels(c.weight);
     let h = half_of(c.from, c.ctrl, c.to);
-    push_half(h, c.weight, &mut levels, DEPTH, points, p)
+    push_half(h, c.weight, &mut levels, DEPTH, points, f)
 }
 
 // Lays n verbs of quads from v on.
@@ -127,21 +128,21 @@ fn put_verbs(verbs: &mut [u8], v: usize, n: usize)
 
 // Lays the quads of a conic where 64 have room, from verb v and point p on, and says how many they are.
 #[tactic(auto, using(halves::proofs::Laws::quads_most, halves::proofs::Laws::quads_bytes))]
-pub fn push_conic(c: Conic, verbs: &mut [u8], v: usize, points: &mut [f32], p: usize) -> usize
-    requires { (v + most_quads ≤ length verbs.old) × (2 * p + 4 * most_quads ≤ length points.old) }
-    ensures { Bent (quads_of c) result verbs.old v verbs.new points.old (2 * p) points.new }
+pub fn push_conic(c: Conic, verbs: &mut [u8], v: usize, points: &mut [f32], f: usize) -> usize
+    requires { (v + most_quads ≤ length verbs.old) × (f + 4 * most_quads ≤ length points.old) }
+    ensures { Bent (quads_of c) result verbs.old v verbs.new points.old f points.new }
 {
-    let n = push_points(c, points, p);
+    let n = push_points(c, points, f);
     put_verbs(verbs, v, n);
     n
 }
 
 // Lays n quads whose points stand apart, from verb v and point p on.
 #[tactic(auto, using(crate::proofs::Stores::part_set))]
-pub fn put_quads(apart: &[f32], n: usize, verbs: &mut [u8], v: usize, points: &mut [f32], p: usize)
-    requires { (4 * n ≤ length apart.now) × (v + n ≤ length verbs.old) × (2 * p + 4 * n ≤ length points.old) }
-    ensures { (verbs.new ≡ sets verbs.old v (replicate n 2)) × (points.new ≡ sets points.old (2 * p) (take (4 * n) apart.now)) }
+pub fn put_quads(apart: &[f32], n: usize, verbs: &mut [u8], v: usize, points: &mut [f32], f: usize)
+    requires { (4 * n ≤ length apart.now) × (v + n ≤ length verbs.old) × (f + 4 * n ≤ length points.old) }
+    ensures { (verbs.new ≡ sets verbs.old v (replicate n 2)) × (points.new ≡ sets points.old f (take (4 * n) apart.now)) }
 {
     put_verbs(verbs, v, n);
-    points[2 * p..2 * p + 4 * n].copy_from_slice(&apart[..4 * n]);
+    points[f..f + 4 * n].copy_from_slice(&apart[..4 * n]);
 }

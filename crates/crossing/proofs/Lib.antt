@@ -1,2 +1,3 @@
 pub mod Dashes
+pub mod Laws
 pub mod Styles

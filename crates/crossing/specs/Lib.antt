@@ -1,4 +1,5 @@
 pub mod Answers
 pub mod Builder
 pub mod Dash
+pub mod Laws
 pub mod Replay
