@@ -2,19 +2,14 @@
 #![tactic(auto)]
 
 use builder::PathBuilder;
+use common::Shape;
 use outline::{Dashed, Outline};
 use path::{FillRule, Segment};
 use segments::Segments;
 use std::{fmt, io};
-use turns::Convexity;
 use vec2::Vec2;
 
 // ---- what is printed
-
-// The whole number below 200 that a float is.
-fn whole(x: f32) -> Option<u16> {
-    (0..200u16).find(|n| f32::from(*n) == x)
-}
 
 // A number of whole or of eighths; a question mark for any other.
 #[derive(Clone, Copy)]
@@ -22,9 +17,9 @@ struct Number(f32);
 
 impl fmt::Display for Number {
     fn fmt<W: fmt::Write>(&self, f: &mut fmt::Formatter<W>) -> fmt::Result {
-        if let Some(n) = whole(self.0) {
+        if let Some(n) = common::whole(self.0, 200) {
             write!(f, "{n}")
-        } else if let Some(n) = whole(self.0 * 8.0) {
+        } else if let Some(n) = common::whole(self.0 * 8.0, 200) {
             write!(f, "{n}/8")
         } else {
             write!(f, "?")
@@ -149,9 +144,8 @@ fn print_conic(rt: &impl Print) -> io::Result<()> {
 // ---- convexity
 
 fn print_verdict(rt: &impl Print, what: &str, points: &[f32]) -> io::Result<()> {
-    match convexity::polygon_convexity(points) {
-        Ok(Convexity::Convex) => println!(rt; "{what}: Convex"),
-        Ok(Convexity::Concave) => println!(rt; "{what}: Concave"),
+    match convexity::polygon_convexity(points).map(Shape) {
+        Ok(shape) => println!(rt; "{what}: {shape}"),
         Err(refusal) => println!(rt; "{what}: refused {}", u8::from(refusal)),
     }
 }

@@ -1,36 +1,13 @@
 // Outlines and the answers to the questions about them: convexity, bounds, finiteness and range. The expected lines stand in `stdout`.
 #![tactic(auto)]
 
+use common::{Shape, YesNo};
 use path::Refusal;
 use rect::Rect;
 use std::{fmt, io};
-use turns::Convexity;
 use vec2::Vec2;
 
 // ---- the library's answers, and how they are told
-
-// `Convex` or `Concave`.
-#[derive(Clone, Copy)]
-struct Shape(Convexity);
-
-impl fmt::Display for Shape {
-    fn fmt<W: fmt::Write>(&self, f: &mut fmt::Formatter<W>) -> fmt::Result {
-        f.write_str(match self.0 {
-            Convexity::Convex => "Convex",
-            Convexity::Concave => "Concave",
-        })
-    }
-}
-
-// `yes` or `no`.
-#[derive(Clone, Copy)]
-struct Holds(bool);
-
-impl fmt::Display for Holds {
-    fn fmt<W: fmt::Write>(&self, f: &mut fmt::Formatter<W>) -> fmt::Result {
-        f.write_str(if self.0 { "yes" } else { "no" })
-    }
-}
 
 // An answer, or the number of a refusal, which is told alike for every question.
 fn tell<T: fmt::Display + Drop>(
@@ -264,11 +241,11 @@ fn past_the_limit(rt: &impl Print) -> io::Result<()> {
 
 fn outline(rt: &impl Print, name: &str, verbs: &[u8], points: &[f32]) -> io::Result<()> {
     tell(rt, name, convexity::convexity(verbs, points).map(Shape))?;
-    tell(rt, "  finite", bounds::is_finite(verbs, points).map(Holds))?;
+    tell(rt, "  finite", bounds::is_finite(verbs, points).map(YesNo))?;
     tell(
         rt,
         "  in range",
-        bounds::is_within_tessellation_range(verbs, points).map(Holds),
+        bounds::is_within_tessellation_range(verbs, points).map(YesNo),
     )
 }
 
@@ -338,14 +315,9 @@ fn refused_paths(rt: &impl Print) -> io::Result<()> {
 
 // ---- boxes
 
-// Whether a rect has these corners, by value.
-fn is(r: Rect, min: Vec2, max: Vec2) -> bool {
-    r.min.same(min) && r.max.same(max)
-}
-
 fn reports(rt: &impl Print, list: &[(&str, bool)]) -> io::Result<()> {
     for (name, holds) in list {
-        let answer = Holds(*holds);
+        let answer = YesNo(*holds);
         println!(rt; "{name}: {answer}")?;
     }
     Ok(())
@@ -359,7 +331,7 @@ fn empty_rect(rt: &impl Print) -> io::Result<()> {
     reports(
         rt,
         &[
-            ("no point: from +oo to -oo", is(r, high, low)),
+            ("no point: from +oo to -oo", r == Rect { min: high, max: low }),
             ("  empty", r.is_empty()),
             ("  width 0", r.width() == 0.0),
             ("  height 0", r.height() == 0.0),
@@ -380,7 +352,7 @@ fn rects(rt: &impl Print) -> io::Result<()> {
     reports(
         rt,
         &[
-            ("control points count, NaNs do not", is(r, min, max)),
+            ("control points count, NaNs do not", r == Rect { min, max }),
             ("  empty", r.is_empty()),
             ("  width 33", r.width() == 33.0),
             ("  height 14", r.height() == 14.0),
