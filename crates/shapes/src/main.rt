@@ -331,7 +331,13 @@ fn empty_rect(rt: &impl Print) -> io::Result<()> {
     reports(
         rt,
         &[
-            ("no point: from +oo to -oo", r == Rect { min: high, max: low }),
+            (
+                "no point: from +oo to -oo",
+                r == Rect {
+                    min: high,
+                    max: low,
+                },
+            ),
             ("  empty", r.is_empty()),
             ("  width 0", r.width() == 0.0),
             ("  height 0", r.height() == 0.0),
