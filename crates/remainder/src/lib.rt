@@ -76,20 +76,20 @@ fn rest_pattern(a: u32, m: u32) -> u32
 pub fn rem(a: f32, m: f32) -> f32
     ensures { result ≡ rem binary32 a m }
 {
-    if a != a {
+    if a.is_nan() {
         return a;
     }
-    if m != m {
+    if m.is_nan() {
         return m;
     }
     let n = f32::to_bits(a);
     let x = n % 0x8000_0000;
     let y = f32::to_bits(m) % 0x8000_0000;
     if 0x7f80_0000 <= x {
-        return 0.0 / 0.0;
+        return f32::NAN;
     }
     if y == 0 {
-        return 0.0 / 0.0;
+        return f32::NAN;
     }
     if 0x7f80_0000 <= y {
         return a;

@@ -132,7 +132,7 @@ pub fn root_pattern(b: u32) -> u32
 pub fn sqrt(x: f32) -> f32
     ensures { result ≡ square_root binary32 x }
 {
-    if x != x {
+    if x.is_nan() {
         return x;
     }
     let b = f32::to_bits(x);
@@ -142,7 +142,7 @@ pub fn sqrt(x: f32) -> f32
         }
     }
     if 0x8000_0000 < b {
-        return 0.0 / 0.0;
+        return f32::NAN;
     }
     if b == 0 {
         return x;

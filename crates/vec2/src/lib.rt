@@ -15,6 +15,7 @@ pub struct Vec2 {
     pub y: f32,
 }
 
+// The four operators differ in the operation alone, which is all that each of them says: by a function that takes it they would be longer.
 impl Add for Vec2 {
     type Output = Vec2;
 
@@ -94,6 +95,7 @@ impl Vec2 {
         self.x * b.y - self.y * b.x
     }
 
+    // By component, and `max` like it: they differ in the function that they name.
     pub fn min(self, b: Vec2) -> Vec2
         ensures { result ≡ minimum self b }
     {
@@ -132,7 +134,7 @@ impl Vec2 {
     pub fn is_nan(self) -> bool
         ensures { result ≡ any_nan self }
     {
-        float::is_nan(self.x) || float::is_nan(self.y)
+        self.x.is_nan() || self.y.is_nan()
     }
 
     // Whether both components are finite.
