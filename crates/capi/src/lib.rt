@@ -236,7 +236,7 @@ pub extern "C" fn hz_replay(
 pub extern "C" fn hz_check(verbs: &[u8], points: &[f32]) -> u8
     ensures { result ≡ number_of (check verbs.now points.now) }
 {
-    crossing::number_of(&path::check(verbs, points))
+    path::number_of(&path::check(verbs, points))
 }
 
 #[unsafe(no_mangle)]

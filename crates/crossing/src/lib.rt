@@ -5,7 +5,6 @@
 ghost use Rattle.std.specs.Prelude.{◌≡◌, ◌≤◌, length, IfOk};
 ghost use Rattle.std.specs.Result.{result_map_both};
 ghost use Rattle.pattern.specs.Cycle.{max_intervals};
-ghost use Rattle.path.specs.Refusal.{number_of};
 ghost use Rattle.outline.specs.Answer.{answer_of};
 ghost use Rattle.crossing.specs.Answers.{bounds_out, answer_out, verdict_out, flattened_out, carried_out, style_out};
 ghost use Rattle.crossing.specs.Builder.{state_in, state_out, reply_out, point_out, note_out};
@@ -21,16 +20,6 @@ use rect::Rect;
 use replay::Replayed;
 use turns::Convexity;
 use vec2::Vec2;
-
-// The number that refuses, 0 for none.
-pub fn number_of<T>(answer: &Result<T, Refusal>) -> u8
-    ensures { result ≡ number_of answer.now }
-{
-    match answer {
-        Ok(_) => 0,
-        Err(refusal) => (*refusal).into(),
-    }
-}
 
 // ---- building
 

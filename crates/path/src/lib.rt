@@ -7,7 +7,7 @@ ghost use Rattle.path.specs.Segment.{used, byte_of};
 ghost use Rattle.path.specs.Rule.{rule_in, rule_out};
 ghost use Rattle.path.specs.Style.{style_of};
 ghost use Rattle.path.specs.Check.{max_verbs, used_by, any_over4, bad_first, check, check_points};
-ghost use Rattle.path.specs.Refusal.{number};
+ghost use Rattle.path.specs.Refusal.{number, number_of};
 
 use vec2::Vec2;
 
@@ -40,7 +40,20 @@ impl From<FillRule> for u8 {
     }
 }
 
-// A verb with the points that it uses.
+// ---- verbs
+
+// The verbs as bytes: the form in which buffers hold them, and C shares them.
+pub const MOVE: u8 = 0;
+
+pub const LINE: u8 = 1;
+
+pub const QUAD: u8 = 2;
+
+pub const CUBIC: u8 = 3;
+
+pub const CLOSE: u8 = 4;
+
+// A verb with the points that it uses: what a byte is read as.
 #[derive(Clone, Copy, PartialEq)]
 pub enum Segment {
     Move(Vec2),
@@ -51,19 +64,21 @@ pub enum Segment {
 }
 
 impl Segment {
-    // The byte of its verb.
+    // The byte of its verb. A variant with points has no number of its own that `as` could take.
     pub fn verb(self) -> u8
         ensures { result ≡ byte_of self }
     {
         match self {
-            Segment::Move(_) => 0,
-            Segment::Line(_) => 1,
-            Segment::Quad(_, _) => 2,
-            Segment::Cubic(_, _, _) => 3,
-            Segment::Close => 4,
+            Segment::Move(_) => MOVE,
+            Segment::Line(_) => LINE,
+            Segment::Quad(_, _) => QUAD,
+            Segment::Cubic(_, _, _) => CUBIC,
+            Segment::Close => CLOSE,
         }
     }
 }
+
+// ---- refusals
 
 // Why a call is refused: who lends memory, who hands in a path, who hands in a builder's state, who orders a line. The numbers are the C interface's.
 #[derive(Clone, Copy, PartialEq, Eq)]
@@ -96,6 +111,18 @@ impl From<Refusal> for u8 {
     }
 }
 
+// The number that an answer carries for C: the refusal's, 0 for none.
+pub fn number_of<T>(answer: &Result<T, Refusal>) -> u8
+    ensures { result ≡ number_of answer.now }
+{
+    match answer {
+        Ok(_) => 0,
+        Err(refusal) => (*refusal).into(),
+    }
+}
+
+// ---- limits
+
 pub const MAX_VERBS: usize = 65536;
 
 pub const MAX_POINTS: usize = 131072;
@@ -118,7 +145,7 @@ const STYLES: [&[f32]; 9] = [
     &[24.0, 8.0],
 ];
 
-// The points that a verb uses; none for a byte that is no verb. A verb is a byte of the lent buffer, the form that C shares; `Segment` is what it is read as.
+// The points that a verb uses; none for a byte that is no verb.
 pub fn point_count(verb: u8) -> usize
     ensures { (result ≡ used verb) × (result ≤ 3) }
 {
@@ -144,7 +171,7 @@ fn any_over_4(verbs: &[u8]) -> bool
 {
     let mut found = false;
     for v in verbs {
-        found |= 4 < *v;
+        found |= CLOSE < *v;
     }
     found
 }
@@ -166,7 +193,7 @@ fn points_of(verbs: &[u8]) -> usize
 fn begins_badly(verbs: &[u8]) -> bool
     ensures { result ≡ bad_first verbs.now }
 {
-    verbs.first().is_some_and(|v| *v != 0)
+    verbs.first().is_some_and(|v| *v != MOVE)
 }
 
 // Whether a bare list of points is taken.
