@@ -5,7 +5,8 @@ ghost use Rattle.std.specs.Prelude.{◌≡◌, false, ◌+◌, ◌*◌, ◌≤�
 ghost use Rattle.vec2.specs.Points.{point_at};
 ghost use Rattle.path.specs.Segment.{used, byte_of};
 ghost use Rattle.path.specs.Rule.{rule_in, rule_out};
-ghost use Rattle.path.specs.Style.{style_of};
+ghost use Rattle.std.specs.Option.{option_map};
+ghost use Rattle.path.specs.Style.{style};
 ghost use Rattle.path.specs.Check.{max_verbs, used_by, any_over4, bad_first, check, check_points};
 ghost use Rattle.path.specs.Refusal.{number, number_of};
 
@@ -156,11 +157,11 @@ pub fn point_count(verb: u8) -> usize
     0
 }
 
-// The intervals of a line style; none for a number that is no style.
-pub fn style(number: usize) -> &'static [f32]
-    ensures { result.now ≡ style_of number }
+// The intervals of a line style, where the number is one's.
+pub fn style(number: usize) -> Option<&'static [f32]>
+    ensures { option_map (λ s. s.now) result ≡ style number }
 {
-    if number < 9 { STYLES[number] } else { &[] }
+    STYLES.get(number).copied()
 }
 
 // ---- the path that is handed in

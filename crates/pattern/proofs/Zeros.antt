@@ -1,13 +1,14 @@
 -- A pattern of zeros alone is not usable. Assumes nothing.
 use mathlib.Core.Path.{◌≡◌, refl, ◌∙◌, ap}
 use mathlib.Core.Logic.{◌⊎◌, inl, inr}
-use mathlib.Core.Bool.{Bool, true, false, ◌&&◌}
+use mathlib.Core.Bool.{false}
 use mathlib.Core.List.{List, [], ◌∷◌}
 use lib.Count.{count_trailing_zeros}
 use lib.Ieee.{Float, binary32, add, sum, round, size, units, odd, span, climb, lt, of_bits, of_fields}
+use native.Mathlib.Omega.{arith}
+use Rattle.std.proofs.lemmas.Grind.{common_steps}
 use Rattle.float.specs.Arith.{plus, f0}
-use Rattle.float.specs.Small.{is_finite}
-use Rattle.pattern.specs.Cycle.{sum_from, all_good, some, AllZero, period, cuts}
+use Rattle.pattern.specs.Cycle.{sum_from, AllZero, cuts}
 
 add_zero : plus f0 f0 ≡ f0
 unfolding add sum round size units odd span climb of_bits of_fields count_trailing_zeros
@@ -29,12 +30,5 @@ not_above : lt f0 f0 ≡ false
 unfolding lt of_bits of_fields count_trailing_zeros
 not_above = refl
 
-neither : (a b c d : Bool) → c ≡ false → (a && (b && (c && d))) ≡ false
-neither true true c d h = ap (λ (z : Bool). z && d) h
-neither true false c d h = refl
-neither false b c d h = refl
-
 pub zeros_alone : (ps : List Float) → AllZero ps → (phase tolerance : Float) → cuts ps phase tolerance ≡ false
-zeros_alone ps h phase tolerance =
-    ap (λ (u : Bool). u && (is_finite (period ps) && lt tolerance (period ps)))
-    (neither (some ps) (all_good ps) (lt f0 (sum_from f0 ps)) (is_finite phase) (ap (lt f0) (sum_zero ps h) ∙ not_above))
+zeros_alone ps h phase tolerance = let n : lt f0 (sum_from f0 ps) ≡ false = ap (lt f0) (sum_zero ps h) ∙ not_above in grind (arith, common_steps, n)

@@ -19,10 +19,7 @@ const MAX_CYCLE: usize = 128;
 pub fn line_style(number: usize) -> Result<&'static [f32], Refusal>
     ensures { result_map_both (λ s. s.now) (λ r. r) result ≡ line_style number }
 {
-    if 8 < number {
-        return Err(Refusal::NoStyle);
-    }
-    Ok(path::style(number))
+    path::style(number).ok_or(Refusal::NoStyle)
 }
 
 // ---- the pattern
@@ -83,6 +80,7 @@ impl Cycle {
 }
 
 // The intervals as an even-length cycle: an odd pattern is laid twice.
+#[tactic(auto, using(crate::proofs::Cycles::twice))]
 pub fn cycle_of(intervals: &[f32]) -> Cycle
     requires { length intervals.now ≤ max_intervals }
     ensures { result ≡ cycle_of intervals.now }
