@@ -1,7 +1,7 @@
 // `dash_path`: a path cut into the drawn pieces of a dash pattern, and `drawn_outline`.
 #![tactic(auto)]
 
-ghost use Rattle.std.specs.Prelude.{◌≡◌, ◌%◌, ◌<◌, length, Ok};
+ghost use Rattle.std.specs.Prelude.{◌≡◌, ◌%◌, ◌<◌, List, length, Float, Ok};
 ghost use Rattle.path.specs.Check as path;
 ghost use Rattle.pattern.specs.Cycle.{cycle_of};
 ghost use Rattle.outline.specs.Answer.{answer_of};
@@ -10,6 +10,7 @@ ghost use Rattle.outline.specs.Outline.{part, outline_of};
 
 use outline::Dashed;
 use path::{FillRule, Refusal};
+use walk::Scratch;
 
 // 1, then the path's 4, 5, 6, then 8.
 fn check(
@@ -36,7 +37,6 @@ fn cut(
     verbs: &[u8],
     points: &[f32],
     rule: FillRule,
-    intervals: &[f32],
     cycle: &[f32],
     phase: f32,
     tolerance: f32,
@@ -46,21 +46,16 @@ fn cut(
     vs: &mut [u8],
     fs: &mut [f32],
 ) -> Result<Dashed, Refusal>
-    requires { (length scratch.old % 2 ≡ 0) × (path.check verbs.now points.now ≡ Ok tt) × (cycle.now ≡ cycle_of intervals.now) × (0 < length cycle.now) }
-    ensures { outcome (answer_of result) scratch.new ends.new marks.new vs.new fs.new
-        ≡ cutting verbs.now points.now rule intervals.now phase tolerance scratch.old ends.old marks.old vs.old fs.old }
+    requires { (length scratch.old % 2 ≡ 0) × (path.check verbs.now points.now ≡ Ok tt) × (0 < length cycle.now) }
+    ensures { (intervals : List Float) → cycle.now ≡ cycle_of intervals → outcome (answer_of result) scratch.new ends.new marks.new vs.new fs.new
+        ≡ cutting verbs.now points.now rule intervals phase tolerance scratch.old ends.old marks.old vs.old fs.old }
 {
     let f = flatten::flatten(verbs, points, tolerance, scratch, ends, marks)?;
-    walk::cut_scratch(
-        &scratch[..2 * f.points],
-        &ends[..f.polylines],
-        cycle,
-        phase,
-        f.held,
-        rule,
-        vs,
-        fs,
-    )
+    let kept = Scratch {
+        points: &scratch[..2 * f.points],
+        ends: &ends[..f.polylines],
+    };
+    walk::cut_scratch(kept, cycle, phase, f.held, rule, vs, fs)
 }
 
 // Cuts a path into the drawn pieces of a dash pattern. Path, pattern, scratch and dash buffers come apart, as C lends them: a struct of lent slices would have
@@ -88,7 +83,6 @@ pub fn dash_path(
             verbs,
             points,
             rule,
-            intervals,
             cycle.intervals(),
             phase,
             tolerance,

@@ -1,4 +1,5 @@
-// The walk of every polyline that the scratch keeps: counted, and laid where the dash buffers take it.
+// The walk of every polyline that the scratch keeps: counted, and laid where the dash buffers take it. Those are lent as two slices, verbs and floats: a struct of
+// two `&mut` would have to promise in each contract that it still holds those very references.
 #![tactic(auto)]
 
 ghost use Rattle.std.specs.Prelude.{◌≡◌, false, ◌^◌, ◌<◌, leb, length};
@@ -14,6 +15,7 @@ ghost use Rattle.outline.specs.Ends.{Ordered};
 ghost use Rattle.outline.proofs.Ends.{Ordered-prop};
 ghost use Rattle.outline.specs.Answer.{answer_of};
 ghost use Rattle.outline.specs.Dash.{walked, Cap, cut_outcome, scratch_outcome};
+ghost use Rattle.walk.specs.Laid.{LaidOrRefused};
 
 use counting::Counting;
 use cycle::Start;
@@ -30,7 +32,15 @@ fn room(verbs: usize, floats: usize) -> usize
     verbs.min(floats / 2).min(path::MAX_VERBS)
 }
 
-// What is walked: the polylines that the scratch keeps, each from the end of the one before it to its own, and the lengths of the first legs.
+// The polylines that the scratch keeps: their points, each polyline's from the end of the one before it to its own.
+#[derive(Clone, Copy)]
+pub struct Scratch<'a> {
+    pub points: &'a [f32],
+    pub ends: &'a [usize],
+    pub ghost ordered: { Ordered (length points.now) 0 ends.now } by { Ordered-prop (length points.now) 0 ends.now },
+}
+
+// What is walked: the same, and the lengths of the first legs.
 #[derive(Clone, Copy)]
 struct Lines<'a> {
     points: &'a [f32],
@@ -92,32 +102,21 @@ fn lay_all(lines: Lines<'_>, start: Start<'_>, verbs: &mut [u8], floats: &mut [f
     all.tip.at
 }
 
-// Counts what the polylines give, and lays it where it fits.
+// Counts what the polylines give, and lays it where it fits. Answers how many verbs are laid.
 fn cut_by(
     lines: Lines<'_>,
     start: Start<'_>,
-    held: usize,
-    rule: FillRule,
     verbs: &mut [u8],
     floats: &mut [f32],
-) -> Result<Dashed, Refusal>
-    ensures { cut_outcome (answer_of result) verbs.new floats.new
-        ≡ scratch_outcome start.entry.cycle.now start.entry.pos lines.entry.points.now lines.entry.ends.now held rule verbs.old floats.old }
+) -> Result<usize, Refusal>
+    ensures { LaidOrRefused (walked start.entry.cycle.now start.entry.pos (points_in lines.entry.points.now) lines.entry.ends.now)
+        verbs.old floats.old result verbs.new floats.new }
 {
     let cap = room(verbs.len(), floats.len());
     if !is_within(lines, start, cap) {
         return Err(Refusal::OutputFull);
     }
-    let m = lay_all(lines, start, verbs, floats);
-    let o = Outline {
-        verbs: m,
-        points: m,
-        scratch: lines.points.len() / 2,
-        polylines: lines.ends.len(),
-        held,
-        rule,
-    };
-    Ok(Dashed::Cut(o))
+    Ok(lay_all(lines, start, verbs, floats))
 }
 
 // So many lengths are kept on a short path, and on a long one.
@@ -127,54 +126,52 @@ const MANY_LENGTHS: usize = 8192;
 
 // Counts and lays, by so many kept lengths.
 fn cut_keeping<const KEPT: usize>(
-    points: &[f32],
-    ends: &[usize],
+    scratch: Scratch<'_>,
     start: Start<'_>,
-    held: usize,
-    rule: FillRule,
     verbs: &mut [u8],
     floats: &mut [f32],
-) -> Result<Dashed, Refusal>
-    requires { (KEPT < 2 ^ 61) × Ordered (length points.now) 0 ends.now }
-    ensures { cut_outcome (answer_of result) verbs.new floats.new
-        ≡ scratch_outcome start.entry.cycle.now start.entry.pos points.now ends.now held rule verbs.old floats.old }
+) -> Result<usize, Refusal>
+    requires { KEPT < 2 ^ 61 }
+    ensures { LaidOrRefused (walked start.entry.cycle.now start.entry.pos (points_in scratch.entry.points.now) scratch.entry.ends.now)
+        verbs.old floats.old result verbs.new floats.new }
 {
     let mut kept = [0.0f32; KEPT];
-    legs::keep_lengths(points, &mut kept);
+    legs::keep_lengths(scratch.points, &mut kept);
     let lines = Lines {
-        points,
-        ends,
+        points: scratch.points,
+        ends: scratch.ends,
         lengths: &kept,
     };
-    cut_by(lines, start, held, rule, verbs, floats)
+    cut_by(lines, start, verbs, floats)
 }
 
 // Counts and lays. The length of a leg takes a root, so lengths are kept from the counting to the laying: few on a short path, which then does not pay
-// for clearing many, and many on a long one. The legs behind those that are kept are measured twice.
+// for clearing many, and many on a long one. The legs behind those that are kept are measured twice. Where no drawn interval is above 0 nothing is drawn, and
+// nothing is walked: a fine gap on a long path would take very many turns that lay nothing.
 fn cut_all(
-    points: &[f32],
-    ends: &[usize],
-    start: Start<'_>,
-    held: usize,
-    rule: FillRule,
+    scratch: Scratch<'_>,
+    cycle: &[f32],
+    phase: f32,
     verbs: &mut [u8],
     floats: &mut [f32],
-) -> Result<Dashed, Refusal>
-    requires { Ordered (length points.now) 0 ends.now }
-    ensures { cut_outcome (answer_of result) verbs.new floats.new
-        ≡ scratch_outcome start.entry.cycle.now start.entry.pos points.now ends.now held rule verbs.old floats.old }
+) -> Result<usize, Refusal>
+    requires { 0 < length cycle.now }
+    ensures { LaidOrRefused (walked cycle.now (start_of cycle.now phase (sum_from f0 cycle.now)) (points_in scratch.entry.points.now) scratch.entry.ends.now)
+        verbs.old floats.old result verbs.new floats.new }
 {
-    if points.len() <= 2 * FEW_LENGTHS {
-        return cut_keeping::<FEW_LENGTHS>(points, ends, start, held, rule, verbs, floats);
+    if cycle::gaps_only(cycle) {
+        return Ok(0);
     }
-    cut_keeping::<MANY_LENGTHS>(points, ends, start, held, rule, verbs, floats)
+    let start = cycle::start_of(cycle, phase, pattern::sum_of(cycle));
+    if scratch.points.len() <= 2 * FEW_LENGTHS {
+        return cut_keeping::<FEW_LENGTHS>(scratch, start, verbs, floats);
+    }
+    cut_keeping::<MANY_LENGTHS>(scratch, start, verbs, floats)
 }
 
-// Cuts what the scratch keeps. Where no drawn interval is above 0 nothing is drawn, and nothing is walked: a fine gap on a long path would take very many
-// turns that lay nothing.
+// Cuts what the scratch keeps.
 pub fn cut_scratch(
-    points: &[f32],
-    ends: &[usize],
+    scratch: Scratch<'_>,
     cycle: &[f32],
     phase: f32,
     held: usize,
@@ -182,22 +179,17 @@ pub fn cut_scratch(
     verbs: &mut [u8],
     floats: &mut [f32],
 ) -> Result<Dashed, Refusal>
-    requires { (0 < length cycle.now) × Ordered (length points.now) 0 ends.now }
+    requires { 0 < length cycle.now }
     ensures { cut_outcome (answer_of result) verbs.new floats.new
-        ≡ scratch_outcome cycle.now (start_of cycle.now phase (sum_from f0 cycle.now)) points.now ends.now held rule verbs.old floats.old }
+        ≡ scratch_outcome cycle.now (start_of cycle.now phase (sum_from f0 cycle.now)) scratch.entry.points.now scratch.entry.ends.now held rule verbs.old floats.old }
 {
-    if cycle::gaps_only(cycle) {
-        let o = Outline {
-            verbs: 0,
-            points: 0,
-            scratch: points.len() / 2,
-            polylines: ends.len(),
-            held,
-            rule,
-        };
-        return Ok(Dashed::Cut(o));
-    }
-    let period = pattern::sum_of(cycle);
-    let start = cycle::start_of(cycle, phase, period);
-    cut_all(points, ends, start, held, rule, verbs, floats)
+    let laid = cut_all(scratch, cycle, phase, verbs, floats)?;
+    Ok(Dashed::Cut(Outline {
+        verbs: laid,
+        points: laid,
+        scratch: scratch.points.len() / 2,
+        polylines: scratch.ends.len(),
+        held,
+        rule,
+    }))
 }

@@ -1,81 +1,69 @@
 -- `cut` meets its contract. Assumes nothing.
 use mathlib.Core.Path.{◌≡◌, sym, ◌∙◌, ap}
 use mathlib.Core.List.{List}
-use Prim.Native.Nat.{ℕ, ◌*◌}
+use Prim.Native.Nat.{ℕ, ◌*◌, ◌%◌}
 use native.Mathlib.Omega.{arith}
 use lib.ListN.{length, take}
 use lib.Seq.{length-take-le}
+use lib.Ieee.{Float}
+use Rattle.std.specs.Prelude.{Result, Ok}
 use Rattle.std.proofs.lemmas.Result.{err_from_is_err_and}
 use Rattle.vec2.proofs.Points.{length-flat}
+use Rattle.path.specs.declared.Refusal.{Refusal}
 use Rattle.path.specs.Segment.{segments}
-use Rattle.polyline.specs.Flatten.{points_out}
+use Rattle.path.specs.Check.{check}
+use Rattle.polyline.specs.declared.Flattened.{Flattened}
+use Rattle.polyline.specs.Flatten.{points_out, flatten, outcome}
 use Rattle.outline.specs.Ends.{Ordered}
 use Rattle.outline.proofs.Answers.{scratch_full, scratch_kept}
-use Rattle.outline.proofs.Scratch.{full, kept, ends_ordered}
+use Rattle.outline.proofs.Scratch.{full, KeptScratch, kept, ends_ordered}
 use Rattle.dash.proofs.cut.Goals as goal
 
 ordered : {n m : ℕ} {l k : List ℕ} → n ≡ m → l ≡ k → Ordered m 0 k → Ordered n 0 l
 ordered p q o = rw (p, q) o
 
+-- what the flattening leaves, where it refuses nothing
+left : {vs : List ℕ} {fs : List Float} {tol : Float} {scratch : List Float} {ends marks : List ℕ} (even : length scratch % 2 ≡ 0) (good : check vs fs ≡ Ok tt)
+    {a : Result Flattened Refusal} {s' : List Float} {e' m' : List ℕ} → outcome a s' e' m' ≡ flatten vs fs tol scratch ends marks
+    → {r : Flattened} → a ≡ Ok r → KeptScratch vs fs tol scratch ends marks even good r s' e' m'
+left even good e h = kept _ _ _ _ _ _ even good _ _ _ _ e _ h
+
 pub returns-in_err-f : goal.returns-in_err-f
-returns-in_err-f c =
+returns-in_err-f c intervals h =
     let a = c.args in
     let f = c.flatten in
     let p = err_from_is_err_and c.from_residual.result c.from_residual.ensures.1 in
     let u = full a.verbs.now a.points.now a.tolerance a.scratch.now a.ends.now a.marks.now c.requires.0 c.requires.1 f.result _ _ _ f.ensures _ c.in_err-f.was in
     rw (p.1, p.2, u.refusal)
-    (scratch_full a.verbs.now a.points.now a.rule a.intervals.now a.phase a.tolerance a.scratch.now a.ends.now a.marks.now a.vs.now a.fs.now u.misfit _ _ _ u.scratch_is u.ends_are u.marks_are)
+    (scratch_full a.verbs.now a.points.now a.rule intervals a.phase a.tolerance a.scratch.now a.ends.now a.marks.now a.vs.now a.fs.now u.misfit _ _ _ u.scratch_is u.ends_are u.marks_are)
 
-pub overflow_mul-f : goal.overflow_mul-f
-overflow_mul-f c =
-    let a = c.args in
-    let f = c.flatten in
-    let k = kept a.verbs.now a.points.now a.tolerance a.scratch.now a.ends.now a.marks.now c.requires.0 c.requires.1 f.result _ _ _ f.ensures _ c.in_ok-f.was in
-    omega (arith, k.room, f.auto, c.well_formed)
+pub overflow_mul-kept : goal.overflow_mul-kept
+overflow_mul-kept c = omega (arith, (left c.requires.0 c.requires.1 c.flatten.ensures c.in_ok-f.was).room, c.flatten.auto, c.well_formed)
 
-pub slice_bounds-cut_scratch-end : goal.slice_bounds-cut_scratch-end
-slice_bounds-cut_scratch-end c =
-    let a = c.args in
-    let f = c.flatten in
-    let k = kept a.verbs.now a.points.now a.tolerance a.scratch.now a.ends.now a.marks.now c.requires.0 c.requires.1 f.result _ _ _ f.ensures _ c.in_ok-f.was in
-    k.room
+pub slice_bounds-kept-end : goal.slice_bounds-kept-end
+slice_bounds-kept-end c = (left c.requires.0 c.requires.1 c.flatten.ensures c.in_ok-f.was).room
 
-pub slice_bounds-cut_scratch-end-2 : goal.slice_bounds-cut_scratch-end-2
-slice_bounds-cut_scratch-end-2 c =
-    let a = c.args in
-    let f = c.flatten in
-    let k = kept a.verbs.now a.points.now a.tolerance a.scratch.now a.ends.now a.marks.now c.requires.0 c.requires.1 f.result _ _ _ f.ensures _ c.in_ok-f.was in
-    sym (length-take-le _ _ k.room)
+pub slice_bounds-kept-end-2 : goal.slice_bounds-kept-end-2
+slice_bounds-kept-end-2 c = sym (length-take-le _ _ (left c.requires.0 c.requires.1 c.flatten.ensures c.in_ok-f.was).room)
 
-pub slice_bounds-cut_scratch-end-3 : goal.slice_bounds-cut_scratch-end-3
-slice_bounds-cut_scratch-end-3 c =
-    let a = c.args in
-    let f = c.flatten in
-    let k = kept a.verbs.now a.points.now a.tolerance a.scratch.now a.ends.now a.marks.now c.requires.0 c.requires.1 f.result _ _ _ f.ensures _ c.in_ok-f.was in
-    k.rooms
+pub slice_bounds-kept-end-3 : goal.slice_bounds-kept-end-3
+slice_bounds-kept-end-3 c = (left c.requires.0 c.requires.1 c.flatten.ensures c.in_ok-f.was).rooms
 
-pub slice_bounds-cut_scratch-end-4 : goal.slice_bounds-cut_scratch-end-4
-slice_bounds-cut_scratch-end-4 c =
-    let a = c.args in
-    let f = c.flatten in
-    let k = kept a.verbs.now a.points.now a.tolerance a.scratch.now a.ends.now a.marks.now c.requires.0 c.requires.1 f.result _ _ _ f.ensures _ c.in_ok-f.was in
-    sym (length-take-le _ _ k.rooms)
+pub slice_bounds-kept-end-4 : goal.slice_bounds-kept-end-4
+slice_bounds-kept-end-4 c = sym (length-take-le _ _ (left c.requires.0 c.requires.1 c.flatten.ensures c.in_ok-f.was).rooms)
 
-pub cut_scratch-requires : goal.cut_scratch-requires
-cut_scratch-requires c =
+pub invariant_of-kept : goal.invariant_of-kept
+invariant_of-kept c =
     let a = c.args in
-    let f = c.flatten in
-    let k = kept a.verbs.now a.points.now a.tolerance a.scratch.now a.ends.now a.marks.now c.requires.0 c.requires.1 f.result _ _ _ f.ensures _ c.in_ok-f.was in (
-      c.requires.3,
-      ordered (ap length k.points ∙ length-flat (points_out a.tolerance (segments a.verbs.now a.points.now))) k.polylines (ends_ordered a.tolerance (segments a.verbs.now a.points.now)),
-    )
+    let k = left c.requires.0 c.requires.1 c.flatten.ensures c.in_ok-f.was in
+    record { ordered = ordered (ap length k.points ∙ length-flat (points_out a.tolerance (segments a.verbs.now a.points.now))) k.polylines (ends_ordered a.tolerance (segments a.verbs.now a.points.now)) }
 
 pub returns : goal.returns
-returns c =
+returns c intervals h =
     let a = c.args in
     let f = c.flatten in
     let r = c.in_ok-f.f in
-    let k = kept a.verbs.now a.points.now a.tolerance a.scratch.now a.ends.now a.marks.now c.requires.0 c.requires.1 f.result _ _ _ f.ensures _ c.in_ok-f.was in
-    scratch_kept a.verbs.now a.points.now a.rule a.intervals.now a.phase a.tolerance a.scratch.now a.ends.now a.marks.now a.vs.now a.fs.now k.fit _ _ _ k.scratch_is k.ends_are k.marks_are
+    let k = left c.requires.0 c.requires.1 f.ensures c.in_ok-f.was in
+    scratch_kept a.verbs.now a.points.now a.rule intervals a.phase a.tolerance a.scratch.now a.ends.now a.marks.now a.vs.now a.fs.now k.fit _ _ _ k.scratch_is k.ends_are k.marks_are
     (take (2 * r.points) f.new.out) (take r.polylines f.new.ends) k.points k.polylines
-    a.cycle.now c.requires.2 r.held k.held _ _ _ c.cut_scratch.ensures
+    a.cycle.now h r.held k.held _ _ _ c.cut_scratch.ensures

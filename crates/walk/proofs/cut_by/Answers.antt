@@ -1,7 +1,5 @@
 -- `cut_by` meets its contract. Assumes nothing.
 use mathlib.Core.Path.{sym, ◌∙◌}
-use Prim.Native.Nat.{◌/◌}
-use lib.ListN.{length}
 use native.Mathlib.Omega.{arith}
 use Rattle.polyline.specs.Polylines.{polylines}
 use Rattle.vec2.specs.Points.{points_in}
@@ -12,21 +10,17 @@ pub is_within-requires : goal.is_within-requires
 is_within-requires c = omega (arith, cap_small _ _ _ c.room-cap.ensures)
 
 pub returns-then-not-is_within : goal.returns-then-not-is_within
-returns-then-not-is_within c =
+returns-then-not-is_within c n k held rule =
     let a = c.args in
-    let l = a.lines in
-    too_many a.start.cycle.now a.start.pos (polylines 0 (points_in l.points.now) l.ends.now) a.verbs.now a.floats.now _ c.room-cap.ensures
-    (length l.points.now / 2) (length l.ends.now) a.held a.rule (sym c.is_within.ensures ∙ c.if-not-is_within.true)
+    too_many a.start.cycle.now a.start.pos (polylines 0 (points_in a.lines.points.now) a.lines.ends.now) a.verbs.now a.floats.now _ c.room-cap.ensures n k held rule (sym c.is_within.ensures ∙ c.if-not-is_within.true)
 
-pub lay_all-m-requires : goal.lay_all-m-requires
-lay_all-m-requires c =
+pub lay_all-requires : goal.lay_all-requires
+lay_all-requires c =
     let a = c.args in
-    let l = a.lines in
-    has_room a.start.cycle.now a.start.pos (polylines 0 (points_in l.points.now) l.ends.now) a.verbs.now a.floats.now _ c.room-cap.ensures (sym c.is_within.ensures ∙ c.if-not-is_within.false)
+    has_room a.start.cycle.now a.start.pos (polylines 0 (points_in a.lines.points.now) a.lines.ends.now) a.verbs.now a.floats.now _ c.room-cap.ensures (sym c.is_within.ensures ∙ c.if-not-is_within.false)
 
 pub returns : goal.returns
-returns c =
+returns c n k held rule =
     let a = c.args in
-    let l = a.lines in
-    laid_out a.start.cycle.now a.start.pos (polylines 0 (points_in l.points.now) l.ends.now) a.verbs.now a.floats.now _ c.room-cap.ensures (sym c.is_within.ensures ∙ c.if-not-is_within.false)
-    (length l.points.now / 2) (length l.ends.now) a.held a.rule _ _ _ c.lay_all-m.ensures
+    laid_out a.start.cycle.now a.start.pos (polylines 0 (points_in a.lines.points.now) a.lines.ends.now) a.verbs.now a.floats.now _ c.room-cap.ensures (sym c.is_within.ensures ∙ c.if-not-is_within.false)
+    n k held rule _ _ _ c.lay_all.ensures
