@@ -1,7 +1,8 @@
 // `dash_path`: a path cut into the drawn pieces of a dash pattern, and `drawn_outline`.
 #![tactic(auto)]
 
-ghost use Rattle.std.specs.Prelude.{◌≡◌, ◌%◌, ◌<◌, List, length, Float, Ok};
+ghost use Rattle.std.specs.Prelude.{◌≡◌, ◌%◌, ◌<◌, List, [], length, Float, Ok};
+ghost use Rattle.std.specs.Option.{option_map, unwrap_or};
 ghost use Rattle.path.specs.Check as path;
 ghost use Rattle.pattern.specs.Cycle.{cycle_of};
 ghost use Rattle.outline.specs.Answer.{answer_of};
@@ -96,15 +97,11 @@ pub fn dash_path(
     Ok(Dashed::Whole)
 }
 
-// The floats of the first n points; none where there are fewer.
-fn part(floats: &[f32], n: usize) -> &[f32]
-    ensures { result.now ≡ part floats.now n }
+// The floats of the first n points, where there are so many.
+fn part(floats: &[f32], n: usize) -> Option<&[f32]>
+    ensures { unwrap_or (option_map (λ s. s.now) result) [] ≡ part floats.now n }
 {
-    if n <= floats.len() / 2 {
-        &floats[..2 * n]
-    } else {
-        &[]
-    }
+    floats.get(..n.checked_mul(2)?)
 }
 
 // The drawn outline: the path's own part, or the filled part of the dash buffer; nothing where the dashing was refused, or where the numbers do not fit.
@@ -116,9 +113,10 @@ pub fn drawn_outline<'a>(
 ) -> &'a [f32]
     ensures { result.now ≡ outline_of path.now points dash.now answer }
 {
-    match answer {
+    let drawn = match answer {
         Some(Dashed::Whole) => part(path, points),
         Some(Dashed::Cut(o)) => part(dash, o.points),
-        None => &[],
-    }
+        None => None,
+    };
+    drawn.unwrap_or_default()
 }
