@@ -79,6 +79,7 @@ fn walk_all<P: Pen>(
 }
 
 // Whether the walks of all polylines lay no more verbs than the cap. Counting stops over it, so that a fine pattern on a long path is refused at once.
+#[tactic(auto, using(strokes::proofs::Counts::counts_all))]
 fn is_within(lines: Lines<'_>, start: Start<'_>, cap: usize) -> bool
     requires { cap < 2 ^ 61 }
     ensures { result ≡ leb (length (walked start.entry.cycle.now start.entry.pos (points_in lines.entry.points.now) lines.entry.ends.now)) cap }
@@ -90,6 +91,7 @@ fn is_within(lines: Lines<'_>, start: Start<'_>, cap: usize) -> bool
 }
 
 // Lays what the walks of all polylines draw. Answers how many verbs are laid.
+#[tactic(auto, using(strokes::proofs::Lays::all_drawn, strokes::proofs::Lays::lay_drawn, strokes::proofs::Lays::lays_all))]
 fn lay_all(lines: Lines<'_>, start: Start<'_>, verbs: &mut [u8], floats: &mut [f32]) -> usize
     requires { Room (length verbs.old) (length floats.old)
         (laid (out verbs.old floats.old 0) (walked start.cycle.now start.pos (points_in lines.points.now) lines.ends.now)) }
@@ -103,6 +105,7 @@ fn lay_all(lines: Lines<'_>, start: Start<'_>, verbs: &mut [u8], floats: &mut [f
 }
 
 // Counts what the polylines give, and lays it where it fits. Answers how many verbs are laid.
+#[tactic(auto, using(outline::proofs::Caps::cap_small, outline::proofs::Caps::too_many, outline::proofs::Caps::has_room, outline::proofs::Caps::laid_out))]
 fn cut_by(
     lines: Lines<'_>,
     start: Start<'_>,
@@ -148,6 +151,7 @@ fn cut_keeping<const KEPT: usize>(
 // Counts and lays. The length of a leg takes a root, so lengths are kept from the counting to the laying: few on a short path, which then does not pay
 // for clearing many, and many on a long one. The legs behind those that are kept are measured twice. Where no drawn interval is above 0 nothing is drawn, and
 // nothing is walked: a fine gap on a long path would take very many turns that lay nothing.
+#[tactic(auto, using(events::proofs::Gaps::nothing_drawn, outline::proofs::Answers::cut_none))]
 fn cut_all(
     scratch: Scratch<'_>,
     cycle: &[f32],

@@ -5,18 +5,13 @@ use native.Mathlib.Nat.{zero-add}
 use Prim.Native.Nat.{ℕ}
 use lib.Dec.{leb}
 use lib.ListN.{length}
-use native.Mathlib.Omega.{arith}
 use Rattle.polyline.specs.Polylines.{polylines}
 use Rattle.vec2.specs.Points.{points_in}
 use mathlib.Core.List.{[]}
-use borrow.Author.Tests.{le-ltb}
 use Rattle.strokes.specs.Pen.{all_events}
-use Rattle.strokes.proofs.Counts.{counts_all, count_fits}
+use Rattle.strokes.proofs.Counts.{count_fits}
 use Rattle.strokes.proofs.Lays.{all_drawn}
 use Rattle.walk.proofs.is_within.Goals as goal
-
-pub walk_all-all-requires : goal.walk_all-all-requires
-walk_all-all-requires c = (le-ltb _ _ (omega arith), counts_all _ _ c.requires (omega arith))
 
 pub returns : goal.returns
 returns c =
