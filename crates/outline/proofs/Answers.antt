@@ -19,6 +19,8 @@ use Rattle.path.specs.declared.FillRule.{FillRule}
 use Rattle.path.specs.Segment.{segments}
 use Rattle.std.specs.Prelude.{Result, Ok, Err}
 use Rattle.std.specs.Result.{result_and}
+use Rattle.std.proofs.lemmas.Bool.{and_parts}
+use Rattle.std.proofs.lemmas.Grind.{common_steps}
 use Rattle.path.specs.declared.Refusal.{Refusal}
 use Rattle.path.specs.declared.Refusal.TheVariants.{OddFloats, OutputFull, LongPattern}
 use Rattle.path.specs.Check as path
@@ -96,12 +98,8 @@ module _ (verbs : List ℕ) (points : List Float) (rule : FillRule) (intervals :
 
   passes : (a b c : Bool) (r : Result Unit Refusal) (d : Bool) →
       ◌≡◌ {A = Result Unit Refusal} (cond (a && (b && c)) (result_and r (cond d (Err LongPattern) (Ok tt))) (Err OddFloats)) (Ok tt) → (b ≡ true) × (r ≡ Ok tt) × (d ≡ false)
-  passes true true true (Ok u) false h = (refl, refl, refl)
-  passes true true true (Ok u) true h = absurd (cc)
-  passes true true true (Err e) d h = absurd (cc)
-  passes true true false r d h = absurd (cc)
-  passes true false c r d h = absurd (cc)
-  passes false b c r d h = absurd (cc)
+  passes a b c (Ok u) d h = grind (arith, common_steps)
+  passes a b c (Err e) d h = grind (arith, common_steps)
 
   -- what is known where nothing is refused
   pub none_refused : checked ≡ Ok tt → (length scratch % 2 ≡ 0) × (path.check verbs points ≡ Ok tt) × (length intervals ≤ 64)
@@ -111,17 +109,13 @@ module _ (verbs : List ℕ) (points : List Float) (rule : FillRule) (intervals :
 
 -- ---- a pattern that is cut has an interval
 
-double_some : (xs : List Float) (b : Bool) → some xs ≡ true → 0 < length (cond b xs (xs ++ xs))
+pub double_some : (xs : List Float) (b : Bool) → some xs ≡ true → 0 < length (cond b xs (xs ++ xs))
 double_some [] b h = absurd (true≢false (sym h))
 double_some (x ∷ xs) true h = omega arith
 double_some (x ∷ xs) false h = omega arith
 
-first : (a b : Bool) → a && b ≡ true → a ≡ true
-first true b h = refl
-first false b h = h
-
 pub cuts_some : (xs : List Float) (phase tolerance : Float) → cuts xs phase tolerance ≡ true → 0 < length (cycle_of xs)
-cuts_some xs phase tolerance h = double_some xs (eqb (length xs % 2) 0) (first (some xs) _ (first (usable xs phase) _ h))
+cuts_some xs phase tolerance h = double_some xs (eqb (length xs % 2) 0) (and_parts (some xs) _ (and_parts (usable xs phase) _ h).0).0
 
 -- ---- nothing is drawn
 
@@ -135,5 +129,5 @@ none_out n k held rule vs fs false h = absurd (true≢false (sym h))
 
 pub cut_none : (ss : List Segment) → ss ≡ [] → (n k held : ℕ) (rule : FillRule) (vs : List ℕ) (fs : List Float)
     → cut_outcome (cut_into (record { verbs = 0; points = 0; scratch = n; polylines = k; held = held; rule = rule })) vs fs ≡ out_outcome ss n k held rule vs fs
-cut_none ss e n k held rule vs fs =
+cut_none _ e n k held rule vs fs =
     none_out n k held rule vs fs (fits_both 0 0 (length vs) (length fs)) (none_fit (length vs) (length fs)) ∙ sym (ap (λ (l : List Segment). out_outcome l n k held rule vs fs) e)

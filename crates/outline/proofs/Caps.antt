@@ -1,15 +1,16 @@
 -- How many verbs the dash buffers take, and what the count says of the output's room. Assumes nothing.
-use mathlib.Core.Path.{◌≡◌, refl, sym, ◌∙◌, ap}
+use mathlib.Core.Path.{◌≡◌, sym, ◌∙◌, ap}
 use Prim.Native.Nat.{ℕ, ◌/◌, ◌≤◌}
 use native.Mathlib.Omega.{arith}
 use native.Mathlib.Nat.{zero-add, le_refl}
-use mathlib.Core.Bool.{Bool, true, false, ◌&&◌, true≢false}
+use mathlib.Core.Bool.{Bool, true, false}
 use mathlib.Core.List.{List}
 use lib.ListN.{length}
 use lib.Seq.{sets}
 use lib.Dec.{leb}
 use lib.Ieee.{Float}
 use borrow.Author.Tests.{le-leb, leb-true}
+use Rattle.std.proofs.lemmas.Bool.{and_parts}
 use Rattle.vec2.specs.Points.{flat}
 use Rattle.path.specs.declared.Segment.{Segment}
 use Rattle.path.specs.declared.FillRule.{FillRule}
@@ -24,10 +25,6 @@ use Rattle.path.specs.declared.Refusal.TheVariants.{OutputFull}
 use Rattle.outline.specs.Answer.{refused_by, cut_into}
 use Rattle.outline.specs.Dash.{fits_both, out_fits, Cap, cut_outcome, out_if, out_outcome}
 
-pub both : (a b : Bool) → a && b ≡ true → (a ≡ true) × (b ≡ true)
-both true b h = (refl, h)
-both false b h = absurd (true≢false (sym h))
-
 -- ---- what fits
 
 pub record Fits (v p verbs floats : ℕ) : Type 0 where
@@ -37,9 +34,9 @@ pub record Fits (v p verbs floats : ℕ) : Type 0 where
 
 pub fits : (v p verbs floats : ℕ) → fits_both v p verbs floats ≡ true → Fits v p verbs floats
 fits v p verbs floats h =
-    let a = both (leb v verbs) _ h in
-    let b = both (leb v max_verbs) _ a.1 in
-    let c = both (leb p (floats / 2)) _ b.1 in
+    let a = and_parts (leb v verbs) _ h in
+    let b = and_parts (leb v max_verbs) _ a.1 in
+    let c = and_parts (leb p (floats / 2)) _ b.1 in
     record { verb = leb-true _ _ a.0; limit = leb-true _ _ b.0; point = leb-true _ _ c.0 }
 
 pub cap_small : (verbs floats r : ℕ) → Cap verbs floats r → r ≤ 65536

@@ -31,7 +31,8 @@ use Rattle.std.specs.Prelude.{Result, Ok, Err}
 use Rattle.path.specs.declared.Refusal.{Refusal}
 use Rattle.outline.specs.Dash.{check, dashes, scratch_fits, out_fits, outline_for, out_if, Outcome, keeping, kept_if, cutting, dashed_by, dashing}
 use Rattle.outline.specs.Runs.{CutIntoRuns}
-use Rattle.outline.proofs.Caps.{both, fits}
+use Rattle.std.proofs.lemmas.Bool.{and_parts}
+use Rattle.outline.proofs.Caps.{fits}
 use Rattle.vec2.proofs.Lists.{front}
 
 module _ (path : List Segment) (intervals : List Float) (phase tolerance : Float) (rule : FillRule) (scratch : List Float) (ends marks vs : List ℕ) (fs : List Float) (o : Outline) where
@@ -56,8 +57,8 @@ module _ (path : List Segment) (intervals : List Float) (phase tolerance : Float
 
   laid : scratch_fits ps es ms scratch ends marks ≡ true → out_fits ss vs fs ≡ true → outline_for ss (length ps) (length es) held rule ≡ o → CutIntoRuns path intervals phase tolerance rule o (left true)
   laid f g q =
-      let a = both (leb (length ps) (length scratch / 2)) (leb (length es) (length ends) && leb (length ms) (length marks)) f in
-      let d = both (leb (length es) (length ends)) (leb (length ms) (length marks)) a.1 in
+      let a = and_parts (leb (length ps) (length scratch / 2)) (leb (length es) (length ends) && leb (length ms) (length marks)) f in
+      let d = and_parts (leb (length es) (length ends)) (leb (length ms) (length marks)) a.1 in
       let y : length ps ≤ length scratch / 2 = leb-true _ _ a.0 in
       let b = fits (length ss) (length (all_points ss)) (length vs) (length fs) g in
       let np : o.scratch ≡ length ps = sym (ap (λ (z : Outline). z.scratch) q) in
@@ -120,12 +121,12 @@ abbrev SaysNone : Outcome → Type 0
 SaysNone z = z.reply.cut ≡ none → z.reply.held ≡ 0
 
 out_none : (b : Bool) (ss : List Segment) (n k held : ℕ) (rule : FillRule) (vs : List ℕ) (fs : List Float) (s : List Float) (e m : List ℕ) → SaysNone (keeping s e m (out_if b ss n k held rule vs fs))
-out_none true ss n k held rule vs fs s e m h = absurd (none-ne-some _ (sym h))
-out_none false ss n k held rule vs fs s e m h = refl
+out_none true _ _ _ _ _ _ _ _ _ _ h = absurd (none-ne-some _ (sym h))
+out_none false _ _ _ _ _ _ _ _ _ _ h = refl
 
 kept_none : (b : Bool) (ps : List Vec2) (es ms : List ℕ) (ss : List Segment) (held : ℕ) (rule : FillRule) (scratch : List Float) (ends marks vs : List ℕ) (fs : List Float) → SaysNone (kept_if b ps es ms ss held rule scratch ends marks vs fs)
-kept_none true ps es ms ss held rule scratch ends marks vs fs h = out_none (out_fits ss vs fs) ss (length ps) (length es) held rule vs fs (sets scratch 0 (flat ps)) (sets ends 0 es) (sets marks 0 ms) h
-kept_none false ps es ms ss held rule scratch ends marks vs fs h = refl
+kept_none true qs ns ks xs _ rule scratch ends marks vs fs h = out_none (out_fits xs vs fs) xs (length qs) (length ns) _ rule vs fs (sets scratch 0 (flat qs)) (sets ends 0 ns) (sets marks 0 ks) h
+kept_none false _ _ _ _ _ _ _ _ _ _ _ h = refl
 
 answered_none : (n : Result Unit Refusal) (c : Bool) (z : Outcome) (scratch : List Float) (ends marks vs : List ℕ) (fs : List Float) → SaysNone z → SaysNone (dashed_by n c z scratch ends marks vs fs)
 answered_none (Err r) c z scratch ends marks vs fs f h = refl

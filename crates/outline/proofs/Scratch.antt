@@ -8,7 +8,7 @@ use lib.ListN.{length, take}
 use lib.Seq.{sets, length-sets}
 use lib.Dec.{leb, ltb}
 use lib.Ieee.{Float}
-use borrow.Author.Tests.{le-ltb, lt-ltb, leb-true, leb-false, ne_eqb}
+use borrow.Author.Tests.{leb-true, ne_eqb}
 use Rattle.vec2.specs.declared.Vec2.{Vec2}
 use Rattle.vec2.specs.Points.{flat}
 use Rattle.path.specs.declared.Segment.{Segment}
@@ -24,7 +24,9 @@ use Rattle.polyline.specs.Subpaths.{marks_out}
 use Rattle.polyline.proofs.Polylines.{ends_rise}
 use Rattle.vec2.proofs.Lists.{front}
 use Rattle.vec2.proofs.Points.{length-flat}
-use Rattle.outline.proofs.Caps.{both}
+use Rattle.std.proofs.lemmas.Bool.{and_parts}
+use Rattle.std.proofs.lemmas.Bool.Decides.{nat_tests}
+use Rattle.std.proofs.lemmas.Grind.{common_steps}
 use Rattle.outline.specs.Ends.{Ordered}
 use Rattle.outline.specs.Dash.{scratch_fits}
 
@@ -44,17 +46,10 @@ ends_ordered tol ss = rising_ordered 0 (length (points_out tol ss)) (ends_out to
 -- ---- the flattening's answer, where nothing is refused before it
 
 over_under : (a b : ℕ) → ltb a b ≡ not (leb b a)
-over_under a b = go (leb b a) refl
-  where
-    go : (d : Bool) → leb b a ≡ d → ltb a b ≡ not d
-    go true e = le-ltb a b (leb-true b a e)
-    go false e = lt-ltb a b (leb-false b a e)
+over_under a b = grind (arith, nat_tests)
 
 or_and : {A : Type 0} (a b d : Bool) (x y : A) → cond (not a || (not b || not d)) x y ≡ cond (a && (b && d)) y x
-or_and true true true x y = refl
-or_and true true false x y = refl
-or_and true false d x y = refl
-or_and false b d x y = refl
+or_and a b d x y = grind (arith, common_steps)
 
 module _ (vs : List ℕ) (fs : List Float) (tol : Float) (scratch : List Float) (ends marks : List ℕ) (even : length scratch % 2 ≡ 0) (good : check vs fs ≡ Ok tt) where
   abbrev path : List Segment
@@ -106,6 +101,7 @@ module _ (vs : List ℕ) (fs : List Float) (tol : Float) (scratch : List Float) 
     pub rooms : r.polylines ≤ length e'
     pub points : take (2 * r.points) s' ≡ flat ps
     pub polylines : take r.polylines e' ≡ es
+    pub ordered : Ordered (length (take (2 * r.points) s')) 0 (take r.polylines e')
     pub held : r.held ≡ held_curves tol path
 
   module _ (a : Result Flattened Refusal) (s' : List Float) (e' m' : List ℕ) (e : outcome a s' e' m' ≡ flatten vs fs tol scratch ends marks) where
@@ -124,13 +120,13 @@ module _ (vs : List ℕ) (fs : List Float) (tol : Float) (scratch : List Float) 
               marks_are = ap (λ (o : Outcome). o.marks) z;
             }
 
-    pub kept : (r : Flattened) → a ≡ Ok r → KeptScratch r s' e' m'
+    kept : (r : Flattened) → a ≡ Ok r → KeptScratch r s' e' m'
     kept r h = go takes refl (reply _ e)
       where
         go : (b : Bool) → takes ≡ b → outcome a s' e' m' ≡ replied (cond b (Ok tt) (Err OutputFull)) tol path scratch ends marks → KeptScratch r s' e' m'
         go true q z =
-            let f = both (leb (length ps) (length scratch / 2)) (leb (length es) (length ends) && leb (length ms) (length marks)) q in
-            let g = both (leb (length es) (length ends)) (leb (length ms) (length marks)) f.1 in
+            let f = and_parts (leb (length ps) (length scratch / 2)) (leb (length es) (length ends) && leb (length ms) (length marks)) q in
+            let g = and_parts (leb (length es) (length ends)) (leb (length ms) (length marks)) f.1 in
             let l : 2 * length ps ≤ length scratch = omega (arith, leb-true (length ps) (length scratch / 2) f.0) in
             let k : length es ≤ length ends = leb-true (length es) (length ends) g.0 in
             let d : a ≡ Ok (totals tol path) = ap (λ (o : Outcome). o.answer) z in
@@ -139,6 +135,8 @@ module _ (vs : List ℕ) (fs : List Float) (tol : Float) (scratch : List Float) 
             let m : r.polylines ≡ length es = ap (λ (u : Flattened). u.polylines) c in
             let s : s' ≡ sets scratch 0 (flat ps) = ap (λ (o : Outcome). o.floats) z in
             let t : e' ≡ sets ends 0 es = ap (λ (o : Outcome). o.ends) z in
+            let p : take (2 * r.points) s' ≡ flat ps = ap (take (2 * r.points)) s ∙ front scratch (flat ps) (2 * r.points) (omega (arith, n, length-flat ps)) (omega (arith, l, length-flat ps)) in
+            let w : take r.polylines e' ≡ es = ap (take r.polylines) t ∙ front ends es r.polylines m k in
             record {
               fit = q;
               scratch_is = s;
@@ -146,8 +144,15 @@ module _ (vs : List ℕ) (fs : List Float) (tol : Float) (scratch : List Float) 
               marks_are = ap (λ (o : Outcome). o.marks) z;
               room = omega (arith, l, n, ap length s, length-sets scratch 0 (flat ps));
               rooms = omega (arith, k, m, ap length t, length-sets ends 0 es);
-              points = ap (take (2 * r.points)) s ∙ front scratch (flat ps) (2 * r.points) (omega (arith, n, length-flat ps)) (omega (arith, l, length-flat ps));
-              polylines = ap (take r.polylines) t ∙ front ends es r.polylines m k;
+              points = p;
+              polylines = w;
+              ordered = rw (p, w, length-flat ps) (ends_ordered tol path);
               held = ap (λ (u : Flattened). u.held) c;
             }
         go false q z = let d : a ≡ Err OutputFull = ap (λ (o : Outcome). o.answer) z in absurd (cc)
+
+-- what is left where nothing is refused
+pub left : {vs : List ℕ} {fs : List Float} {tol : Float} {scratch : List Float} {ends marks : List ℕ} (even : length scratch % 2 ≡ 0) (good : check vs fs ≡ Ok tt)
+    {a : Result Flattened Refusal} {s' : List Float} {e' m' : List ℕ} → outcome a s' e' m' ≡ flatten vs fs tol scratch ends marks
+    → {r : Flattened} → a ≡ Ok r → KeptScratch vs fs tol scratch ends marks even good r s' e' m'
+left even good e h = kept _ _ _ _ _ _ even good _ _ _ _ e _ h

@@ -1,32 +1,13 @@
 -- `cut` meets its contract. Assumes nothing.
-use mathlib.Core.Path.{◌≡◌, sym, ◌∙◌, ap}
-use mathlib.Core.List.{List}
-use Prim.Native.Nat.{ℕ, ◌*◌, ◌%◌}
+use mathlib.Core.Path.{sym}
+use Prim.Native.Nat.{◌*◌}
 use native.Mathlib.Omega.{arith}
-use lib.ListN.{length, take}
+use lib.ListN.{take}
 use lib.Seq.{length-take-le}
-use lib.Ieee.{Float}
-use Rattle.std.specs.Prelude.{Result, Ok}
 use Rattle.std.proofs.lemmas.Result.{err_from_is_err_and}
-use Rattle.vec2.proofs.Points.{length-flat}
-use Rattle.path.specs.declared.Refusal.{Refusal}
-use Rattle.path.specs.Segment.{segments}
-use Rattle.path.specs.Check.{check}
-use Rattle.polyline.specs.declared.Flattened.{Flattened}
-use Rattle.polyline.specs.Flatten.{points_out, flatten, outcome}
-use Rattle.outline.specs.Ends.{Ordered}
 use Rattle.outline.proofs.Answers.{scratch_full, scratch_kept}
-use Rattle.outline.proofs.Scratch.{full, KeptScratch, kept, ends_ordered}
+use Rattle.outline.proofs.Scratch.{full, left}
 use Rattle.dash.proofs.cut.Goals as goal
-
-ordered : {n m : ℕ} {l k : List ℕ} → n ≡ m → l ≡ k → Ordered m 0 k → Ordered n 0 l
-ordered p q o = rw (p, q) o
-
--- what the flattening leaves, where it refuses nothing
-left : {vs : List ℕ} {fs : List Float} {tol : Float} {scratch : List Float} {ends marks : List ℕ} (even : length scratch % 2 ≡ 0) (good : check vs fs ≡ Ok tt)
-    {a : Result Flattened Refusal} {s' : List Float} {e' m' : List ℕ} → outcome a s' e' m' ≡ flatten vs fs tol scratch ends marks
-    → {r : Flattened} → a ≡ Ok r → KeptScratch vs fs tol scratch ends marks even good r s' e' m'
-left even good e h = kept _ _ _ _ _ _ even good _ _ _ _ e _ h
 
 pub returns-in_err-f : goal.returns-in_err-f
 returns-in_err-f c intervals h =
@@ -53,10 +34,7 @@ pub slice_bounds-kept-end-4 : goal.slice_bounds-kept-end-4
 slice_bounds-kept-end-4 c = sym (length-take-le _ _ (left c.requires.0 c.requires.1 c.flatten.ensures c.in_ok-f.was).rooms)
 
 pub invariant_of-kept : goal.invariant_of-kept
-invariant_of-kept c =
-    let a = c.args in
-    let k = left c.requires.0 c.requires.1 c.flatten.ensures c.in_ok-f.was in
-    record { ordered = ordered (ap length k.points ∙ length-flat (points_out a.tolerance (segments a.verbs.now a.points.now))) k.polylines (ends_ordered a.tolerance (segments a.verbs.now a.points.now)) }
+invariant_of-kept c = record { ordered = (left c.requires.0 c.requires.1 c.flatten.ensures c.in_ok-f.was).ordered }
 
 pub returns : goal.returns
 returns c intervals h =
