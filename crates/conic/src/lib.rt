@@ -24,18 +24,18 @@ pub struct Conic {
 const DEPTH: usize = 6;
 
 // So many quads it gives at most, with so many points and floats.
-pub const MAX_QUADS: usize = 64;
+pub const MAX_QUADS: usize = 1 << DEPTH;
 
-pub const MAX_POINTS: usize = 128;
+pub const MAX_POINTS: usize = 2 * MAX_QUADS;
 
-pub const MAX_FLOATS: usize = 256;
+pub const MAX_FLOATS: usize = 2 * MAX_POINTS;
 
 // ---- the weights of the levels, each worked out once: a root takes as long as a half of one
 
 // The weight of a quarter of a circle, the root of a half, by its bits; and those of its levels that are not near 1, from the last to the first.
 const QUARTER: u32 = 0x3f35_04f3;
 
-const QUARTER_LEVELS: [Option<f32>; 6] = [
+const QUARTER_LEVELS: [Option<f32>; DEPTH] = [
     None,
     None,
     Some(0.99879545),
@@ -45,18 +45,18 @@ const QUARTER_LEVELS: [Option<f32>; 6] = [
 ];
 
 // The weights of the levels that are known beforehand, from the last to the first: those of a quarter of a circle, the arc of circles and rounded corners.
-fn known_levels(weight: f32) -> [Option<f32>; 6]
+fn known_levels(weight: f32) -> [Option<f32>; DEPTH]
     ensures { Levels 6 weight result }
 {
     if weight > 0.0 && f32::to_bits(weight) == QUARTER {
         return QUARTER_LEVELS;
     }
-    [None; 6]
+    [None; DEPTH]
 }
 
 // The weight of the halves of a half that may be split k times more. It is kept for the other halves of its level.
 #[tactic(auto, using(crate::proofs::Levels::levels_first, crate::proofs::Levels::kept_none, crate::proofs::Levels::kept_one))]
-fn level_weight(weight: f32, levels: &mut [Option<f32>; 6], k: usize) -> f32
+fn level_weight(weight: f32, levels: &mut [Option<f32>; DEPTH], k: usize) -> f32
     requires { (1 ≤ k) × (k ≤ 6) × Levels k weight levels.old }
     ensures { (result ≡ half_weight weight) × KeptLevels k weight levels.old levels.new }
 {
@@ -88,7 +88,7 @@ fn put_quad(h: [[f32; 2]; 3], points: &mut [f32], f: usize) -> usize
 fn push_half(
     h: [[f32; 2]; 3],
     weight: f32,
-    levels: &mut [Option<f32>; 6],
+    levels: &mut [Option<f32>; DEPTH],
     k: usize,
     points: &mut [f32],
     f: usize,
