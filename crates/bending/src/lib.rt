@@ -28,7 +28,7 @@ fn bend_into(at: Standing, c: Conic, verbs: &mut [u8], points: &mut [f32]) -> us
     ensures { Curved (Ok result) at c verbs.old points.old verbs.new points.new }
 {
     let next = open(at, verbs, points);
-    conic::push_conic(c, verbs, next.verbs, points, 2 * next.points)
+    conic::push_conic(c, &mut verbs[next.verbs..], &mut points[2 * next.points..])
 }
 
 // Where it may have none, its quads are laid apart, and refused by their number or copied, all of them.
@@ -42,11 +42,15 @@ fn bend_apart(
     ensures { Curved result at c verbs.old points.old verbs.new points.new }
 {
     let mut apart = [0.0; conic::MAX_FLOATS];
-    let q = conic::push_points(c, &mut apart, 0);
+    let q = conic::push_points(c, &mut apart);
     let l = lead_of(at.started);
     at.check_room(verbs.len(), points.len(), l + q, l + 2 * q)?;
     let next = open(at, verbs, points);
-    conic::put_quads(&apart, q, verbs, next.verbs, points, 2 * next.points);
+    conic::put_quads(
+        &apart[..4 * q],
+        &mut verbs[next.verbs..],
+        &mut points[2 * next.points..],
+    );
     Ok(q)
 }
 

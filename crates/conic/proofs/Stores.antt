@@ -4,17 +4,19 @@
 --     put_few                    a conic has at most 64 quads
 --     bent_apart                 a conic's points, laid apart, and its verbs
 -- Assumes nothing.
-use mathlib.Core.Path.{◌≡◌, sym, ap, ◌∙◌}
+use mathlib.Core.Path.{◌≡◌, refl, sym, ap, ◌∙◌}
 use mathlib.Core.Bool.{true}
 use mathlib.Core.List.{List, [], ◌∷◌, ◌++◌, append_assoc}
-use Prim.Native.Nat.{ℕ, ◌+◌, ◌*◌, ◌-◌, ◌≤◌}
+use Prim.Native.Nat.{ℕ, ◌+◌, ◌*◌, ◌-◌, ◌/◌, ◌≤◌}
 use native.Mathlib.Omega.{arith}
-use lib.ListN.{length, drop, take, replicate, length-append, length-replicate, length-take, length-drop}
-use lib.Seq.{sets, sets-eq, take_at}
-use borrow.Rule.Slice.PartMut.{put_mid}
-use Rattle.std.proofs.lemmas.List.{drop-drop}
+use lib.ListN.{length, drop, take, replicate, length-append, length-replicate, length-drop}
+use Rattle.std.proofs.Math.Seq.{length-sets}
+use lib.Seq.{sets, sets-eq, length-take-le}
+use borrow.Rule.Slice.PartMut.{put_mid, mid_of, post_of}
+use Rattle.std.proofs.lemmas.List.{drop-drop, take_all, drop_all, append-nil}
 use lib.Ieee.{Float}
 use Rattle.vec2.specs.Points.{flat}
+use Rattle.vec2.proofs.Lists.{front}
 use Rattle.vec2.proofs.Points.{flat_append, length-flat, sets-append}
 use Rattle.path.specs.declared.Segment.{Segment}
 use Rattle.path.specs.declared.Segment.TheVariants.{Quad}
@@ -26,48 +28,59 @@ use Rattle.halves.proofs.Pieces.{pieces_one}
 use Rattle.conic.specs.Lay.{quads_of, Put, Bent}
 use Rattle.conic.specs.declared.Conic.{Conic}
 
--- a part of a slice, overwritten, and filled
-module _ {A : Type 0} (l : List A) (i n : ℕ) where
-  pub part_set : (ys zs : List A) → ys ≡ zs → length zs ≡ n → i + n ≤ length l → put_mid i (i + n - i) l ys ≡ sets l i zs
-  part_set ys zs e m h =
-      let k : i + n - i ≡ n = omega arith in
-      let fit : i + length zs ≤ length l = omega (arith, m, h) in
-      rw (k, drop-drop n i l, ← m, sets-eq zs l i fit, append_assoc (take i l) zs (drop (i + length zs) l), e)
+-- the front of a slice, overwritten
+pub front_set : {A : Type 0} (l : List A) (n : ℕ) (ys zs : List A) → ys ≡ zs → length zs ≡ n → n ≤ length l → ys ++ drop n l ≡ sets l 0 zs
+front_set l n ys zs e m h =
+    let fit : 0 + length zs ≤ length l = omega (arith, m, h) in
+    let z : 0 + length zs ≡ n = omega (arith, m) in
+    rw (e, sets-eq zs l 0 fit, z)
 
-  pub part_filled : (x : A) (ys : List A) → ys ≡ replicate (length (take (i + n - i) (drop i l))) x → i + n ≤ length l → put_mid i (i + n - i) l ys ≡ sets l i (replicate n x)
-  part_filled x ys e h =
-      let k : length (take (i + n - i) (drop i l)) ≡ n = simp (length-take, length-drop) (omega arith) in
-      part_set ys (replicate n x) (e ∙ ap (λ (m : ℕ). replicate m x) k) (length-replicate n x) h
+pub front_filled : {A : Type 0} (l : List A) (n : ℕ) (x : A) (ys : List A) → ys ≡ replicate (length (take n l)) x → n ≤ length l → ys ++ drop n l ≡ sets l 0 (replicate n x)
+front_filled l n x ys e h = front_set l n ys (replicate n x) (e ∙ ap (λ (m : ℕ). replicate m x) (length-take-le n l h)) (length-replicate n x) h
 
-stored_more : {A : Type 0} (l : List A) (i : ℕ) (xs : List A) (k : ℕ) (ys : List A) {m n : List A} → m ≡ sets l i xs → n ≡ sets m k ys → k ≡ i + length xs → n ≡ sets l i (xs ++ ys)
-stored_more {A} l i xs k ys p q e =
-    q ∙ ap (λ (m : List A). sets m k ys) p ∙ ap (λ (j : ℕ). sets (sets l i xs) j ys) e ∙ sym (sets-append xs ys l i)
+-- what was stored at the front of all that stands from i on
+pub behind_set : {A : Type 0} (l : List A) (i : ℕ) (ys zs : List A) → ys ≡ sets (mid_of i (length l - i) l) 0 zs → i + length zs ≤ length l → put_mid i (length l - i) l ys ≡ sets l i zs
+behind_set l i ys zs e h =
+    let k : length (drop i l) ≤ length l - i = omega (arith, length-drop i l) in
+    let m : mid_of i (length l - i) l ≡ drop i l = take_all (length l - i) (drop i l) k in
+    let p : post_of i (length l - i) l ≡ [] = drop_all (length l - i) (drop i l) k in
+    let f : sets (drop i l) 0 zs ≡ zs ++ drop (length zs) (drop i l) = sym (front_set (drop i l) (length zs) zs zs refl refl (omega (arith, length-drop i l, h))) in
+    rw (p, e, m, f, drop-drop (length zs) i l, append-nil, sets-eq zs l i h, append_assoc)
 
 -- a half that is one quad
-pub put_one : (k : ℕ) (h : Half) (w : Float) {r : ℕ} {fs : List Float} {f : ℕ} {fs' : List Float} → single k h w ≡ true → Put (Quad (ctrl_of h) (to_of h) ∷ []) r fs f fs' → Put (pieces k h w) r fs f fs'
+pub put_one : (k : ℕ) (h : Half) (w : Float) {r : ℕ} {fs fs' : List Float} → single k h w ≡ true → Put (Quad (ctrl_of h) (to_of h) ∷ []) r fs fs' → Put (pieces k h w) r fs fs'
 put_one k h w e p = rw (pieces_one k h w e) p
 
 -- l quads of the left half, and r quads of the right half behind them
-pub put_two : (ps qs : List Segment) (l r : ℕ) (fs : List Float) (f g : ℕ) {fs' fs'' : List Float}
-    → length (flat (all_points ps)) ≡ 4 * length ps → g ≡ f + 4 * l → Put ps l fs f fs' → Put qs r fs' g fs'' → Put (ps ++ qs) (l + r) fs f fs''
-put_two ps qs l r fs f g e b p q = record {
-  number = omega (arith, length-append ps qs, p.number, q.number);
-  floats = rw (all_points-append ps qs, flat_append (all_points ps) (all_points qs)) (stored_more fs f (flat (all_points ps)) g (flat (all_points qs)) p.floats q.floats (omega (arith, b, p.number, e)));
-}
+pub put_two : (ps qs : List Segment) (l r : ℕ) {fs fs' ms : List Float} → length (flat (all_points ps)) ≡ 4 * length ps → length (flat (all_points qs)) ≡ 4 * length qs →
+    4 * (length ps + length qs) ≤ length fs →
+    Put ps l fs fs' → Put qs r (mid_of (4 * l) (length fs' - 4 * l) fs') ms → Put (ps ++ qs) (l + r) fs (put_mid (4 * l) (length fs' - 4 * l) fs' ms)
+put_two ps qs l r {fs} {fs'} {ms} a b h p q =
+    let xs = flat (all_points ps) in
+    let ys = flat (all_points qs) in
+    let e : 4 * l ≡ 0 + length xs = omega (arith, a, p.number) in
+    let n : length fs' ≡ length fs = rw p.floats (length-sets fs 0 xs) in
+    record {
+      number = omega (arith, length-append ps qs, p.number, q.number);
+      floats =
+          behind_set fs' (4 * l) ms ys q.floats (omega (arith, n, h, b, p.number))
+          ∙ rw (all_points-append ps qs, flat_append (all_points ps) (all_points qs), sets-append xs ys fs 0, ← p.floats, ← e);
+    }
 
 module _ (c : Conic) {r : ℕ} where
-  pub put_few : {fs : List Float} {f : ℕ} {fs' : List Float} → Put (quads_of c) r fs f fs' → r ≤ 64
+  pub put_few : {fs fs' : List Float} → Put (quads_of c) r fs fs' → r ≤ 64
   put_few p = omega (arith, p.number, quads_most c.from c.ctrl c.to c.weight)
 
   -- points that stand apart, at the front of zs', and verbs
-  pub bent_apart : {zs zs' : List Float} (vs : List ℕ) (v : ℕ) {vs' : List ℕ} (fs : List Float) (f : ℕ) {fs' : List Float}
-      → 256 ≤ length zs → Put (quads_of c) r zs 0 zs' → vs' ≡ sets vs v (replicate r 2) → fs' ≡ sets fs f (take (4 * r) zs') → Bent (quads_of c) r vs v vs' fs f fs'
-  bent_apart {zs} {zs'} vs v fs f l p e g =
+  pub bent_apart : {zs zs' : List Float} {vs vs' : List ℕ} {fs fs' : List Float}
+      → 256 ≤ length zs → Put (quads_of c) r zs zs' → vs' ≡ sets vs 0 (replicate (length (take (4 * r) zs') / 4) 2) → fs' ≡ sets fs 0 (take (4 * r) zs') → Bent (quads_of c) r vs vs' fs fs'
+  bent_apart {zs} {zs'} {vs} {vs'} {fs} l p e g =
       let xs = flat (all_points (quads_of c)) in
-      let n : length xs ≡ 4 * r = omega (arith, length-flat (all_points (quads_of c)), quads_points c.from c.ctrl c.to c.weight, p.number) in
-      let s : take (4 * r) zs' ≡ xs = ap (take (4 * r)) (p.floats ∙ sets-eq xs zs 0 (omega (arith, l, n, p.number, quads_most c.from c.ctrl c.to c.weight))) ∙ take_at xs (drop (0 + length xs) zs) (4 * r) n in
+      let n : 4 * r ≡ length xs = omega (arith, length-flat (all_points (quads_of c)), quads_points c.from c.ctrl c.to c.weight, p.number) in
+      let s : take (4 * r) zs' ≡ xs = ap (take (4 * r)) p.floats ∙ front zs xs (4 * r) n (omega (arith, l, n, p.number, quads_most c.from c.ctrl c.to c.weight)) in
+      let k : length (take (4 * r) zs') / 4 ≡ length (quads_of c) = rw s (omega (arith, n, p.number)) in
       record {
         number = p.number;
-        verbs = e ∙ ap (λ (n : ℕ). sets vs v (replicate n 2)) p.number ∙ ap (sets vs v) (sym (quads_bytes c.from c.ctrl c.to c.weight));
-        floats = g ∙ ap (sets fs f) s;
+        verbs = e ∙ rw (k, quads_bytes c.from c.ctrl c.to c.weight);
+        floats = g ∙ ap (sets fs 0) s;
       }

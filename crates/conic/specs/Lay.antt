@@ -20,13 +20,13 @@ pub record KeptLevels (k : ℕ) (w : Float) (ws ws' : List (Option Float)) : Typ
 abbrev pub quads_of : Conic → List Segment
 quads_of c = quads c.from c.ctrl c.to c.weight
 
--- the points of the quads have been stored from f on, and r is the number of quads
-pub record Put (qs : List Segment) (r : ℕ) (fs : List Float) (f : ℕ) (fs' : List Float) : Type 0 where
+-- the points of the quads have been stored at the front, and r is the number of quads
+pub record Put (qs : List Segment) (r : ℕ) (fs fs' : List Float) : Type 0 where
   pub number : r ≡ length qs
-  pub floats : fs' ≡ sets fs f (flat (all_points qs))
+  pub floats : fs' ≡ sets fs 0 (flat (all_points qs))
 
--- the list of quads has been stored, verbs from v on and floats from f on, and r is its length
-pub record Bent (qs : List Segment) (r : ℕ) (vs : List ℕ) (v : ℕ) (vs' : List ℕ) (fs : List Float) (f : ℕ) (fs' : List Float) : Type 0 where
+-- the list of quads has been stored at the front of both buffers, and r is its length
+pub record Bent (qs : List Segment) (r : ℕ) (vs vs' : List ℕ) (fs fs' : List Float) : Type 0 where
   pub number : r ≡ length qs
-  pub verbs : vs' ≡ sets vs v (bytes_of qs)
-  pub floats : fs' ≡ sets fs f (flat (all_points qs))
+  pub verbs : vs' ≡ sets vs 0 (bytes_of qs)
+  pub floats : fs' ≡ sets fs 0 (flat (all_points qs))

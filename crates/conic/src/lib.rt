@@ -1,7 +1,7 @@
 // A conic as quads: split in half until it is near a quad, at most 6 deep.
 #![tactic(auto)]
 
-ghost use Rattle.std.specs.Prelude.{◌≡◌, [], ◌∷◌, ◌+◌, ◌*◌, ◌^◌, ◌≤◌, length, replicate, take};
+ghost use Rattle.std.specs.Prelude.{◌≡◌, [], ◌∷◌, ◌+◌, ◌*◌, ◌^◌, ◌≤◌, ◌/◌, length, replicate, take};
 ghost use Rattle.std.proofs.lemmas.List.Edits.{sets};
 ghost use Rattle.halves.specs.Conic.{most_quads, half_weight};
 ghost use Rattle.halves.specs.Halves.{ctrl_of, to_of, pieces};
@@ -72,14 +72,14 @@ fn level_weight(weight: f32, levels: &mut [Option<f32>; DEPTH], k: usize) -> f32
 
 const QUAD: u8 = 2;
 
-// Lays the points of a half's quad from f on.
-fn put_quad(h: [[f32; 2]; 3], points: &mut [f32], f: usize) -> usize
-    requires { f + 4 ≤ length points.old }
-    ensures { Put (Quad (ctrl_of h) (to_of h) ∷ []) result points.old f points.new }
+// Lays the points of a half's quad at the front.
+fn put_quad(h: [[f32; 2]; 3], points: &mut [f32]) -> usize
+    requires { 4 ≤ length points.old }
+    ensures { Put (Quad (ctrl_of h) (to_of h) ∷ []) result points.old points.new }
 {
     let ctrl = ctrl_of(h);
     let to = to_of(h);
-    points[f..f + 4].copy_from_slice(&[ctrl.x, ctrl.y, to.x, to.y]);
+    points[..4].copy_from_slice(&[ctrl.x, ctrl.y, to.x, to.y]);
     1
 }
 
@@ -91,58 +91,57 @@ fn push_half(
     levels: &mut [Option<f32>; DEPTH],
     k: usize,
     points: &mut [f32],
-    f: usize,
 ) -> usize
-    requires { (k ≤ 6) × (f + 4 * 2 ^ k ≤ length points.old) × Levels k weight levels.old }
-    ensures { Put (pieces k h weight) result points.old f points.new × KeptLevels k weight levels.old levels.new }
+    requires { (k ≤ 6) × (4 * 2 ^ k ≤ length points.old) × Levels k weight levels.old }
+    ensures { Put (pieces k h weight) result points.old points.new × KeptLevels k weight levels.old levels.new }
 {
     if is_quad(h, weight, k) {
-        return put_quad(h, points, f);
+        return put_quad(h, points);
     }
     let left = left_half(h, weight);
     let right = right_half(h, weight);
     let u = level_weight(weight, levels, k);
-    let l = push_half(left, u, levels, k - 1, points, f);
-    let r = push_half(right, u, levels, k - 1, points, f + 4 * l);
+    let l = push_half(left, u, levels, k - 1, points);
+    let r = push_half(right, u, levels, k - 1, &mut points[4 * l..]);
     l + r
 }
 
-// Lays the points of a conic's quads from float f on, and says how many quads they are.
+// Lays the points of a conic's quads at the front, and says how many quads they are.
 #[tactic(auto, using(halves::proofs::Pieces::pieces_quads))]
-pub fn push_points(c: Conic, points: &mut [f32], f: usize) -> usize
-    requires { f + 4 * most_quads ≤ length points.old }
-    ensures { Put (quads_of c) result points.old f points.new }
+pub fn push_points(c: Conic, points: &mut [f32]) -> usize
+    requires { 4 * most_quads ≤ length points.old }
+    ensures { Put (quads_of c) result points.old points.new }
 {
     let mut levels = known_levels(c.weight);
     let h = half_of(c.from, c.ctrl, c.to);
-    push_half(h, c.weight, &mut levels, DEPTH, points, f)
+    push_half(h, c.weight, &mut levels, DEPTH, points)
 }
 
-// Lays n verbs of quads from v on.
-fn put_verbs(verbs: &mut [u8], v: usize, n: usize)
-    requires { v + n ≤ length verbs.old }
-    ensures { verbs.new ≡ sets verbs.old v (replicate n 2) }
+// Lays n verbs of quads at the front.
+fn put_verbs(verbs: &mut [u8], n: usize)
+    requires { n ≤ length verbs.old }
+    ensures { verbs.new ≡ sets verbs.old 0 (replicate n 2) }
 {
-    verbs[v..v + n].fill(QUAD);
+    verbs[..n].fill(QUAD);
 }
 
-// Lays the quads of a conic where 64 have room, from verb v and point p on, and says how many they are.
+// Lays the quads of a conic at the front of both buffers, where 64 have room, and says how many they are.
 #[tactic(auto, using(halves::proofs::Laws::quads_most, halves::proofs::Laws::quads_bytes))]
-pub fn push_conic(c: Conic, verbs: &mut [u8], v: usize, points: &mut [f32], f: usize) -> usize
-    requires { (v + most_quads ≤ length verbs.old) × (f + 4 * most_quads ≤ length points.old) }
-    ensures { Bent (quads_of c) result verbs.old v verbs.new points.old f points.new }
+pub fn push_conic(c: Conic, verbs: &mut [u8], points: &mut [f32]) -> usize
+    requires { (most_quads ≤ length verbs.old) × (4 * most_quads ≤ length points.old) }
+    ensures { Bent (quads_of c) result verbs.old verbs.new points.old points.new }
 {
-    let n = push_points(c, points, f);
-    put_verbs(verbs, v, n);
+    let n = push_points(c, points);
+    put_verbs(verbs, n);
     n
 }
 
-// Lays n quads whose points stand apart, from verb v and point p on.
-#[tactic(auto, using(crate::proofs::Stores::part_set))]
-pub fn put_quads(apart: &[f32], n: usize, verbs: &mut [u8], v: usize, points: &mut [f32], f: usize)
-    requires { (4 * n ≤ length apart.now) × (v + n ≤ length verbs.old) × (f + 4 * n ≤ length points.old) }
-    ensures { (verbs.new ≡ sets verbs.old v (replicate n 2)) × (points.new ≡ sets points.old f (take (4 * n) apart.now)) }
+// Lays quads whose points stand apart at the front of both buffers.
+#[tactic(auto, using(crate::proofs::Stores::front_set))]
+pub fn put_quads(apart: &[f32], verbs: &mut [u8], points: &mut [f32])
+    requires { (length apart.now / 4 ≤ length verbs.old) × (length apart.now ≤ length points.old) }
+    ensures { (verbs.new ≡ sets verbs.old 0 (replicate (length apart.now / 4) 2)) × (points.new ≡ sets points.old 0 apart.now) }
 {
-    put_verbs(verbs, v, n);
-    points[f..f + 4 * n].copy_from_slice(&apart[..4 * n]);
+    put_verbs(verbs, apart.len() / 4);
+    points[..apart.len()].copy_from_slice(apart);
 }

@@ -8,7 +8,7 @@ use lib.Ieee.{Float}
 use Rattle.std.specs.Prelude.{Option}
 use Rattle.halves.specs.Halves.{single, pieces}
 use Rattle.halves.specs.Conic.{half_weight}
-use Rattle.halves.proofs.Pieces.{pieces_two, split_more, pieces_floats}
+use Rattle.halves.proofs.Pieces.{pieces_two, split_more, pieces_floats, pieces_most, most_twice}
 use Rattle.conic.specs.Lay.{KeptLevels}
 use Rattle.conic.proofs.Levels.{kept_none, kept_down}
 use Rattle.conic.proofs.Stores.{put_one, put_two}
@@ -33,6 +33,6 @@ returns t c =
     -- it is the quads of its halves, one after the other
     let halves : pieces a.k a.h a.weight ≡ pieces (a.k - 1) c.left_half-left.result u ++ pieces (a.k - 1) c.right_half-right.result u =
     pieces_two _ _ _ split ∙ rw (w.0, c.left_half-left.ensures, c.right_half-right.ensures) in (
-      rw halves (put_two _ _ _ _ _ _ _ (pieces_floats _ _ _) (omega arith) l.0 r.0),
+      rw halves (put_two _ _ _ _ (pieces_floats _ _ _) (pieces_floats _ _ _) (omega (arith, pieces_most, most_twice a.k m)) l.0 r.0),
       onward _ _ _ m w.0 (onward _ _ _ m w.0 w.1 l.1) r.1,
     )
