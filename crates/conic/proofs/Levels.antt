@@ -1,5 +1,4 @@
--- The weights of the levels: none known (`levels_none`), those of a quarter of a circle (`levels_quarter`),
--- read one level down (`levels_first`, `levels_next`), and kept (`kept_none`, `kept_one`, `kept_down`). Assumes nothing.
+-- The weights of the levels: those of a quarter of a circle (`levels_quarter`), read one level down (`levels_first`, `levels_next`), and kept (`kept_none`, `kept_one`, `kept_down`). Assumes nothing.
 use mathlib.Core.Path.{◌≡◌, refl, sym, ap, ◌∙◌}
 use mathlib.Core.List.{List, [], ◌∷◌}
 use Prim.Native.Nat.{ℕ, zero, suc, ◌-◌, ◌≤◌}
@@ -21,9 +20,6 @@ unknown v u e = absurd (cc)
 
 known : (g v : Float) → g ≡ v → Is (Some g) v
 known g v e u h = cc
-
-pub levels_none : (w : Float) → Levels 6 w (None ∷ None ∷ None ∷ None ∷ None ∷ None ∷ [])
-levels_none w = (unknown _, (unknown _, (unknown _, (unknown _, (unknown _, (unknown _, tt))))))
 
 module _ (w : Float) (ws : List (Option Float)) where
   pub levels_first : (k : ℕ) → 1 ≤ k → Levels k w ws → Is (get_or ws (k - 1) None) (half_weight w)

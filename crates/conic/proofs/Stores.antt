@@ -1,8 +1,7 @@
 -- Quads in the buffers.
---     part_set, part_filled      a part of a slice, overwritten
---     put_one, put_two           the quad of a half that is one; the quads of the left half, then those of the right half, are those of the whole
---     put_few                    a conic has at most 64 quads
---     bent_apart                 a conic's points, laid apart, and its verbs
+--     front_set, front_filled, behind_set    a part of a slice, overwritten
+--     put_one, put_two                       the quad of a half that is one; the quads of the left half, then those of the right half, are those of the whole
+--     bent_apart                             a conic's points, laid apart, and its verbs
 -- Assumes nothing.
 use mathlib.Core.Path.{◌≡◌, refl, sym, ap, ◌∙◌}
 use mathlib.Core.Bool.{true}
@@ -68,9 +67,6 @@ put_two ps qs l r {fs} {fs'} {ms} a b h p q =
     }
 
 module _ (c : Conic) {r : ℕ} where
-  pub put_few : {fs fs' : List Float} → Put (quads_of c) r fs fs' → r ≤ 64
-  put_few p = omega (arith, p.number, quads_most c.from c.ctrl c.to c.weight)
-
   -- points that stand apart, at the front of zs', and verbs
   pub bent_apart : {zs zs' : List Float} {vs vs' : List ℕ} {fs fs' : List Float}
       → 256 ≤ length zs → Put (quads_of c) r zs zs' → vs' ≡ sets vs 0 (replicate (length (take (4 * r) zs') / 4) 2) → fs' ≡ sets fs 0 (take (4 * r) zs') → Bent (quads_of c) r vs vs' fs fs'

@@ -73,6 +73,7 @@ fn level_weight(weight: f32, levels: &mut [Option<f32>; DEPTH], k: usize) -> f32
 const QUAD: u8 = 2;
 
 // Lays the points of a half's quad at the front.
+#[tactic(auto, using(crate::proofs::Stores::front_set))]
 fn put_quad(h: [[f32; 2]; 3], points: &mut [f32]) -> usize
     requires { 4 ≤ length points.old }
     ensures { Put (Quad (ctrl_of h) (to_of h) ∷ []) result points.old points.new }
@@ -107,10 +108,11 @@ fn push_half(
 }
 
 // Lays the points of a conic's quads at the front, and says how many quads they are.
-#[tactic(auto, using(halves::proofs::Pieces::pieces_quads))]
+#[tactic(auto, using(halves::proofs::Pieces::pieces_quads, halves::proofs::Pieces::pieces_most))]
 pub fn push_points(c: Conic, points: &mut [f32]) -> usize
     requires { 4 * most_quads ≤ length points.old }
-    ensures { Put (quads_of c) result points.old points.new }
+    ensures laid { Put (quads_of c) result points.old points.new }
+    ensures few { result ≤ most_quads }
 {
     let mut levels = known_levels(c.weight);
     let h = half_of(c.from, c.ctrl, c.to);
@@ -118,6 +120,7 @@ pub fn push_points(c: Conic, points: &mut [f32]) -> usize
 }
 
 // Lays n verbs of quads at the front.
+#[tactic(auto, using(crate::proofs::Stores::front_filled))]
 fn put_verbs(verbs: &mut [u8], n: usize)
     requires { n ≤ length verbs.old }
     ensures { verbs.new ≡ sets verbs.old 0 (replicate n 2) }
@@ -126,7 +129,7 @@ fn put_verbs(verbs: &mut [u8], n: usize)
 }
 
 // Lays the quads of a conic at the front of both buffers, where 64 have room, and says how many they are.
-#[tactic(auto, using(halves::proofs::Laws::quads_most, halves::proofs::Laws::quads_bytes))]
+#[tactic(auto, using(halves::proofs::Laws::quads_bytes))]
 pub fn push_conic(c: Conic, verbs: &mut [u8], points: &mut [f32]) -> usize
     requires { (most_quads ≤ length verbs.old) × (4 * most_quads ≤ length points.old) }
     ensures { Bent (quads_of c) result verbs.old verbs.new points.old points.new }
