@@ -1,4 +1,5 @@
 // What a conic that is a curve lays: a move where nothing stands, and its quads; all of them, or where they are refused none.
+// The verbs and the points stay two arguments: of a struct with both `&mut` slices, each contract would have to promise that it keeps those very references.
 #![tactic(auto)]
 
 ghost use Rattle.std.specs.Prelude.{◌≡◌, true, ◌+◌, ◌*◌, length, Ok};
@@ -22,7 +23,7 @@ fn takes_any(at: Standing, verbs: usize, floats: usize) -> bool
 }
 
 // Where any conic has room, its quads are laid straight into the lent buffers, however many they are.
-#[tactic(auto, using(store::proofs::Refusals::refusal_fits, store::proofs::Refusals::refusal_fewer, halves::proofs::Laws::quads_most, crate::proofs::Laws::all_verbs, crate::proofs::Laws::all_twice, crate::proofs::Laws::bent))]
+#[tactic(auto, using(store::proofs::Refusals::refusal_fits))]
 fn bend_into(at: Standing, c: Conic, verbs: &mut [u8], points: &mut [f32]) -> usize
     requires { refusal_of at (length verbs.old) (length points.old) (lead at.started + most_quads) (lead at.started + 2 * most_quads) ≡ Ok tt }
     ensures { Curved (Ok result) at c verbs.old points.old verbs.new points.new }
@@ -32,7 +33,7 @@ fn bend_into(at: Standing, c: Conic, verbs: &mut [u8], points: &mut [f32]) -> us
 }
 
 // Where it may have none, its quads are laid apart, and refused by their number or copied, all of them.
-#[tactic(auto, using(store::proofs::Refusals::refusal_fits, halves::proofs::Laws::quads_most, crate::proofs::Laws::all_verbs, crate::proofs::Laws::all_twice))]
+#[tactic(auto, using(store::proofs::Refusals::refusal_fits, crate::proofs::Laws::all_verbs, crate::proofs::Laws::all_twice))]
 fn bend_apart(
     at: Standing,
     c: Conic,

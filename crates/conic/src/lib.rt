@@ -1,14 +1,15 @@
 // A conic as quads: split in half until it is near a quad, at most 6 deep.
+// The verbs and the points stay two arguments: of a struct with both `&mut` slices, each contract would have to promise that it keeps those very references.
 #![tactic(auto)]
 
-ghost use Rattle.std.specs.Prelude.{◌≡◌, [], ◌∷◌, ◌+◌, ◌*◌, ◌^◌, ◌≤◌, ◌/◌, length, replicate, take};
+ghost use Rattle.std.specs.Prelude.{◌≡◌, [], ◌∷◌, ◌+◌, ◌*◌, ◌^◌, ◌≤◌, ◌/◌, length, replicate};
 ghost use Rattle.std.proofs.lemmas.List.Edits.{sets};
 ghost use Rattle.halves.specs.Conic.{most_quads, half_weight};
 ghost use Rattle.halves.specs.Halves.{ctrl_of, to_of, pieces};
 ghost use Rattle.conic.specs.Lay.{Levels, KeptLevels, quads_of, Put, Bent};
 ghost use Rattle.path.specs.declared.Segment.TheVariants.{Quad};
 
-use splitting::{ctrl_of, half_of, is_quad, left_half, right_half, split_weight, to_of};
+use splitting::{Half, ctrl_of, half_of, is_quad, left_half, right_half, split_weight, to_of};
 use vec2::Vec2;
 
 // A conic: from a point, by a control point of some weight, to a point.
@@ -74,7 +75,7 @@ const QUAD: u8 = 2;
 
 // Lays the points of a half's quad at the front.
 #[tactic(auto, using(crate::proofs::Stores::front_set))]
-fn put_quad(h: [[f32; 2]; 3], points: &mut [f32]) -> usize
+fn put_quad(h: Half, points: &mut [f32]) -> usize
     requires { 4 ≤ length points.old }
     ensures { Put (Quad (ctrl_of h) (to_of h) ∷ []) result points.old points.new }
 {
@@ -87,7 +88,7 @@ fn put_quad(h: [[f32; 2]; 3], points: &mut [f32]) -> usize
 // Lays the points of a half that may be split k times more, and says how many quads they are. Room is asked for by the depth alone: no rounding changes it.
 #[tactic(auto, using(halves::proofs::Pieces::split_more, halves::proofs::Pieces::pieces_most, halves::proofs::Pieces::most_twice, halves::proofs::Pieces::most_few, crate::proofs::Levels::levels_next))]
 fn push_half(
-    h: [[f32; 2]; 3],
+    h: Half,
     weight: f32,
     levels: &mut [Option<f32>; DEPTH],
     k: usize,

@@ -17,29 +17,31 @@ pub fn is_straight(ctrl: Vec2, to: Vec2, weight: f32) -> bool
     !float::is_finite(weight) || weight <= 0.0 || !ctrl.is_finite() || !to.is_finite()
 }
 
-// ---- halves: the control point first, so that no two points that were stored apart are loaded as one
+// A half of a conic: control point, start and end. An array and no struct, since the scope names this form; the control point first, so that no two points that
+// were stored apart are loaded as one.
+pub type Half = [[f32; 2]; 3];
 
-pub fn half_of(from: Vec2, ctrl: Vec2, to: Vec2) -> [[f32; 2]; 3]
+pub fn half_of(from: Vec2, ctrl: Vec2, to: Vec2) -> Half
     ensures { result ≡ half_of from ctrl to }
 {
     [[ctrl.x, ctrl.y], [from.x, from.y], [to.x, to.y]]
 }
 
-fn from_of(h: [[f32; 2]; 3]) -> Vec2
+fn from_of(h: Half) -> Vec2
     ensures { result ≡ from_of h }
 {
     let [_, [x, y], _] = h;
     Vec2 { x, y }
 }
 
-pub fn ctrl_of(h: [[f32; 2]; 3]) -> Vec2
+pub fn ctrl_of(h: Half) -> Vec2
     ensures { result ≡ ctrl_of h }
 {
     let [[x, y], _, _] = h;
     Vec2 { x, y }
 }
 
-pub fn to_of(h: [[f32; 2]; 3]) -> Vec2
+pub fn to_of(h: Half) -> Vec2
     ensures { result ≡ to_of h }
 {
     let [_, _, [x, y]] = h;
@@ -47,24 +49,24 @@ pub fn to_of(h: [[f32; 2]; 3]) -> Vec2
 }
 
 #[tactic(auto, unfolding(halves::specs::Conic::left_of))]
-fn left_ctrl(from: Vec2, ctrl: Vec2, weight: f32) -> Vec2
-    ensures { result ≡ left_of from ctrl weight }
+fn left_ctrl(h: Half, weight: f32) -> Vec2
+    ensures { result ≡ left_of (from_of h) (ctrl_of h) weight }
 {
-    (from + ctrl * weight) * (1.0 / (1.0 + weight))
+    (from_of(h) + ctrl_of(h) * weight) * (1.0 / (1.0 + weight))
 }
 
 #[tactic(auto, unfolding(halves::specs::Conic::right_of))]
-fn right_ctrl(ctrl: Vec2, to: Vec2, weight: f32) -> Vec2
-    ensures { result ≡ right_of ctrl to weight }
+fn right_ctrl(h: Half, weight: f32) -> Vec2
+    ensures { result ≡ right_of (ctrl_of h) (to_of h) weight }
 {
-    (ctrl * weight + to) * (1.0 / (1.0 + weight))
+    (ctrl_of(h) * weight + to_of(h)) * (1.0 / (1.0 + weight))
 }
 
 #[tactic(auto, unfolding(halves::specs::Conic::middle))]
-fn mid(from: Vec2, ctrl: Vec2, to: Vec2, weight: f32) -> Vec2
-    ensures { result ≡ middle from ctrl to weight }
+fn mid(h: Half, weight: f32) -> Vec2
+    ensures { result ≡ middle (from_of h) (ctrl_of h) (to_of h) weight }
 {
-    (from + ctrl * (2.0 * weight) + to) * (0.5 * (1.0 / (1.0 + weight)))
+    (from_of(h) + ctrl_of(h) * (2.0 * weight) + to_of(h)) * (0.5 * (1.0 / (1.0 + weight)))
 }
 
 #[tactic(auto, unfolding(halves::specs::Conic::half_weight))]
@@ -74,28 +76,16 @@ pub fn split_weight(weight: f32) -> f32
     root::sqrt((1.0 + weight) * 0.5)
 }
 
-pub fn left_half(h: [[f32; 2]; 3], weight: f32) -> [[f32; 2]; 3]
+pub fn left_half(h: Half, weight: f32) -> Half
     ensures { result ≡ left_half h weight }
 {
-    let from = from_of(h);
-    let ctrl = ctrl_of(h);
-    half_of(
-        from,
-        left_ctrl(from, ctrl, weight),
-        mid(from, ctrl, to_of(h), weight),
-    )
+    half_of(from_of(h), left_ctrl(h, weight), mid(h, weight))
 }
 
-pub fn right_half(h: [[f32; 2]; 3], weight: f32) -> [[f32; 2]; 3]
+pub fn right_half(h: Half, weight: f32) -> Half
     ensures { result ≡ right_half h weight }
 {
-    let ctrl = ctrl_of(h);
-    let to = to_of(h);
-    half_of(
-        mid(from_of(h), ctrl, to, weight),
-        right_ctrl(ctrl, to, weight),
-        to,
-    )
+    half_of(mid(h, weight), right_ctrl(h, weight), to_of(h))
 }
 
 // ---- where splitting stops
@@ -107,9 +97,12 @@ fn square_of(p: Vec2) -> f32
 }
 
 // The way from the quad's midpoint to the conic's.
-fn mid_gap(from: Vec2, ctrl: Vec2, to: Vec2, weight: f32) -> Vec2
-    ensures { result ≡ gap from ctrl to weight }
+fn mid_gap(h: Half, weight: f32) -> Vec2
+    ensures { result ≡ gap (from_of h) (ctrl_of h) (to_of h) weight }
 {
+    let from = from_of(h);
+    let ctrl = ctrl_of(h);
+    let to = to_of(h);
     let conic_mid = (from + ctrl * (2.0 * weight) + to) / (2.0 * (1.0 + weight));
     let quad_mid = (from + ctrl * 2.0 + to) * 0.25;
     conic_mid - quad_mid
@@ -156,18 +149,18 @@ fn is_near_one(weight: f32) -> bool
 
 // Whether the quad of the same points is near enough, by the midpoints.
 #[tactic(auto, unfolding(halves::specs::Conic::near_mid))]
-fn is_near(from: Vec2, ctrl: Vec2, to: Vec2, weight: f32) -> bool
-    ensures { result ≡ near_mid from ctrl to weight }
+fn is_near(h: Half, weight: f32) -> bool
+    ensures { result ≡ near_mid (from_of h) (ctrl_of h) (to_of h) weight }
 {
-    let chord = square_of(to - from);
-    let gap = square_of(mid_gap(from, ctrl, to, weight));
+    let chord = square_of(to_of(h) - from_of(h));
+    let gap = square_of(mid_gap(h, weight));
     is_within(chord, gap)
 }
 
 // Whether a half that may be split k times more is one quad.
 #[tactic(auto, using(halves::proofs::Pieces::single_by))]
-pub fn is_quad(h: [[f32; 2]; 3], weight: f32, k: usize) -> bool
+pub fn is_quad(h: Half, weight: f32, k: usize) -> bool
     ensures { result ≡ single k h weight }
 {
-    k == 0 || is_near_one(weight) || is_near(from_of(h), ctrl_of(h), to_of(h), weight)
+    k == 0 || is_near_one(weight) || is_near(h, weight)
 }
