@@ -5,6 +5,9 @@ use Prim.Native.Nat.{ℕ, zero, suc, ◌-◌, ◌≤◌}
 use native.Mathlib.Omega.{arith}
 use lib.ListN.{get_or, set, drop}
 use lib.Seq.{get_or-set_other, drop-set-lt}
+use Rattle.std.proofs.lemmas.List.{get_or-drop, drop-drop}
+use native.Mathlib.Nat.{add-zero}
+use native.Mathlib.Numerals.{add-one}
 use lib.Ieee.{Float, binary32, add, mul, of_bits}
 use Rattle.std.specs.Prelude.{Option, Some, None}
 use Rattle.float.specs.Root.{square_root}
@@ -57,27 +60,16 @@ kept_one (suc j) w u ws l e h =
       above = drop-set-lt (suc j) ws j (Some u) (omega arith);
     })
 
-get_d_drop : (l : List (Option Float)) (j : ℕ) → get_or (drop j l) 0 None ≡ get_or l j None
-get_d_drop [] zero = refl
-get_d_drop [] (suc j) = refl
-get_d_drop (x ∷ l) zero = refl
-get_d_drop (x ∷ l) (suc j) = get_d_drop l j
-
-drop-one : (l : List (Option Float)) (j : ℕ) → drop 1 (drop j l) ≡ drop (suc j) l
-drop-one [] zero = refl
-drop-one [] (suc j) = refl
-drop-one (x ∷ l) zero = refl
-drop-one (x ∷ l) (suc j) = drop-one l j
-
-pub kept_down : (k : ℕ) (w : Float) {ws ws' ws'' : List (Option Float)} → 1 ≤ k → KeptLevels k w ws ws' → KeptLevels (k - 1) (half_weight w) ws' ws'' → KeptLevels k w ws ws''
-kept_down zero w l p q = absurd (omega (arith, l))
-kept_down (suc j) w {ws} {ws'} {ws''} l p q =
+pub kept_down : (k : ℕ) (w u : Float) {ws ws' ws'' : List (Option Float)} → 1 ≤ k → u ≡ half_weight w → KeptLevels k w ws ws' → KeptLevels (k - 1) u ws' ws'' → KeptLevels k w ws ws''
+kept_down zero w u l e p q = absurd (omega (arith, l))
+kept_down (suc j) w u {ws} {ws'} {ws''} l e p q =
     let r : suc j - 1 ≡ j = omega arith in
-    let s : KeptLevels j (half_weight w) ws' ws'' = rw (← r) q in
-    let g = sym (get_d_drop ws'' j) ∙ ap (λ (m : List (Option Float)). get_or m 0 None) s.above ∙ get_d_drop ws' j in
+    let s : KeptLevels j (half_weight w) ws' ws'' = rw (← r, ← e) q in
+    let g : get_or ws'' j None ≡ get_or ws' j None = simp (get_or-drop, add-zero) at (ap (λ (m : List (Option Float)). get_or m 0 None) s.above) in
+    let d : (m : List (Option Float)) → drop (suc j) m ≡ drop 1 (drop j m) = λ (m : List (Option Float)). ap (λ (n : ℕ). drop n m) (sym (add-one j)) ∙ sym (drop-drop 1 j m) in
     record {
       below = (rw g p.below.0, s.below);
-      above = sym (drop-one ws'' j) ∙ ap (drop 1) s.above ∙ drop-one ws' j ∙ p.above;
+      above = d ws'' ∙ ap (drop 1) s.above ∙ sym (d ws') ∙ p.above;
     }
 
 -- ---- a quarter of a circle: the root of a half, and the weights of its levels

@@ -1,22 +1,14 @@
 -- `push_half` calls itself on both halves; the measure is k. Assumes nothing.
-use mathlib.Core.Path.{◌≡◌, ◌∙◌, sym, subst}
+use mathlib.Core.Path.{◌≡◌, ◌∙◌, sym}
 use mathlib.Core.Bool.{false}
-use mathlib.Core.List.{List, ◌++◌}
-use Prim.Native.Nat.{ℕ, ◌-◌, ◌≤◌}
+use mathlib.Core.List.{◌++◌}
+use Prim.Native.Nat.{◌-◌, ◌≤◌}
 use native.Mathlib.Omega.{arith}
-use lib.Ieee.{Float}
-use Rattle.std.specs.Prelude.{Option}
 use Rattle.halves.specs.Halves.{single, pieces}
-use Rattle.halves.specs.Conic.{half_weight}
 use Rattle.halves.proofs.Pieces.{pieces_two, split_more, pieces_floats, pieces_most, most_twice}
-use Rattle.conic.specs.Lay.{KeptLevels}
 use Rattle.conic.proofs.Levels.{kept_none, kept_down}
 use Rattle.conic.proofs.Stores.{put_one, put_two}
 use Rattle.conic.proofs.+push_half.Goals as goal
-
--- what its halves leave of the levels' weights is kept
-onward : (k : ℕ) (w u : Float) {ws ws' ws'' : List (Option Float)} → 1 ≤ k → u ≡ half_weight w → KeptLevels k w ws ws' → KeptLevels (k - 1) u ws' ws'' → KeptLevels k w ws ws''
-onward k w u {ws} {ws'} {ws''} l e p q = kept_down k w l p (subst (λ (v : Float). KeptLevels (k - 1) v ws' ws'') e q)
 
 pub returns-then-is_quad : goal.returns-then-is_quad
 returns-then-is_quad t c = (put_one _ _ _ (sym c.is_quad.ensures ∙ c.if-is_quad.true) c.put_quad.ensures, kept_none _ _ _ c.requires.2)
@@ -34,5 +26,5 @@ returns t c =
     let halves : pieces a.k a.h a.weight ≡ pieces (a.k - 1) c.left_half-left.result u ++ pieces (a.k - 1) c.right_half-right.result u =
     pieces_two _ _ _ split ∙ rw (w.0, c.left_half-left.ensures, c.right_half-right.ensures) in (
       rw halves (put_two _ _ _ _ (pieces_floats _ _ _) (pieces_floats _ _ _) (omega (arith, pieces_most, most_twice a.k m)) l.0 r.0),
-      onward _ _ _ m w.0 (onward _ _ _ m w.0 w.1 l.1) r.1,
+      kept_down _ _ _ m w.0 (kept_down _ _ _ m w.0 w.1 l.1) r.1,
     )
