@@ -1,7 +1,8 @@
 -- The midpoints' test by squares: where one square is clearly below a millionth of the other, or clearly above, the rounded roots compare likewise (`clear_near`, `clear_far`).
 -- Assumes nothing.
 use mathlib.Core.Path.{◌≡◌, refl, sym, ap, ◌∙◌, subst}
-use mathlib.Core.Bool.{Bool, true, false}
+use mathlib.Core.Bool.{true, false}
+use Rattle.std.proofs.lemmas.Bool.{false_from_ne_true}
 use Prim.Native.Nat.{ℕ, zero, suc, ◌+◌, ◌-◌, ◌*◌, ◌/◌, ◌^◌, ◌≤◌, ◌<◌}
 use native.Mathlib.Nat.{le_trans, le_of_eq, le_of_lt, lt_of_lt_of_le, lt_of_not-le, zero-mul, mul-one, mul_comm, mul_assoc, mul-pos, mul-le-mul, mul-le-mul_right, mul-mul-mul_comm, le_of_mul-le-mul_right, zero-lt-suc}
 use native.Mathlib.Omega.{arith}
@@ -201,10 +202,6 @@ module _ (x : Float) (h : moderate x ≡ true) where
       let l : 332307 * 2 ^ 149 ≤ m.units * 2 ^ 118 = values_of_le lowest x 332307 (2 ^ 118) m.units (2 ^ 149) lowest_positive moderate_positive lowest_is m.value from in
       le_of_mul-le-mul_right {k = 2 ^ 118} (le_trans (le_of_eq refl) l) (pow_pos 118)
 
-untrue : (b : Bool) → (T b → ⊥) → b ≡ false
-untrue true n = absurd (n tt)
-untrue false n = refl
-
 -- the root of an infinity is one, and over every finite float
 infinite_over : (p : Float) → T (positive p) → le (square_root binary32 (inf false)) p ≡ false
 unfolding square_root le lt eq
@@ -219,12 +216,12 @@ root_some (suc r) n l h = zero-lt-suc r
 
 -- ---- The test: c and g are the squares of the chord and of the gap, C and G what they measure; P is a thousandth of the chord, M about a millionth of its square.
 
-module _ (c : Float) (fc : T (fits binary32 c)) (mc : moderate c ≡ true) where
+module _ (c : Float) (fc : fits binary32 c ≡ true) (mc : moderate c ≡ true) where
   pc : T (positive c)
   pc = moderate_positive c mc
 
   C : Measured c
-  C = measured c fc pc
+  C = measured c (subst T (sym fc) tt) pc
 
   C-root : 0 < C.root
   C-root = root_some C.root (C.units * 2 ^ 149) (mul-pos C.least (pow_pos 149)) C.over
@@ -304,9 +301,9 @@ module _ (c : Float) (fc : T (fits binary32 c)) (mc : moderate c ≡ true) where
     within_no n =
         let p = times thousandth (square_root binary32 c) in
         let pp : T (positive p) = positive_of_value p P.units (2 ^ 149) P.value P-some in
-        let no_le : T (le (square_root binary32 g) p) → ⊥ =
-        λ (l : T (le (square_root binary32 g) p)). n (le_of_mul-le-mul_right {k = 2 ^ 149} (values_of_le (square_root binary32 g) p G.root (2 ^ 149) P.units (2 ^ 149) pq pp G.rooted P.value l) (pow_pos 149)) in
-        rw (above_zero (square_root binary32 c) pr, untrue (le (square_root binary32 g) p) no_le)
+        let no_le : le (square_root binary32 g) p ≡ true → ⊥ =
+        λ (e : le (square_root binary32 g) p ≡ true). n (le_of_mul-le-mul_right {k = 2 ^ 149} (values_of_le (square_root binary32 g) p G.root (2 ^ 149) P.units (2 ^ 149) pq pp G.rooted P.value (subst T (sym e) tt)) (pow_pos 149)) in
+        rw (above_zero (square_root binary32 c) pr, false_from_ne_true (le (square_root binary32 g) p) no_le)
 
   -- a gap that is no longer finite is over every thousandth
   within_never : within (square_root binary32 c) (square_root binary32 (inf false)) ≡ false
@@ -321,12 +318,13 @@ module _ (c : Float) (fc : T (fits binary32 c)) (mc : moderate c ≡ true) where
   far (fin true m e) f a h = absurd a
   far (fin false m e) f a h = within_no (fin false m e) f a (far_roots (fin false m e) f a h)
 
-  pub clear_near : (g : Float) → T (fits binary32 g) → le lowest g ≡ true → le g (times little_less c) ≡ true → true ≡ within (square_root binary32 c) (square_root binary32 g)
-  clear_near g f l h =
+  pub clear_near : (g : Float) → fits binary32 g ≡ true → le lowest g ≡ true → le g (times little_less c) ≡ true → true ≡ within (square_root binary32 c) (square_root binary32 g)
+  clear_near g e l h =
+      let f = subst T (sym e) tt in
       let p = between lowest g (times little_less c) lowest_positive (pm little_less 8752113 less_is less_from less_to) (subst T (sym l) tt) (subst T (sym h) tt) in
       sym (within_yes g f p (near_roots g f p (subst T (sym h) tt)))
 
-  pub clear_far : (g : Float) → T (fits binary32 g) → le (times little_more c) g ≡ true → false ≡ within (square_root binary32 c) (square_root binary32 g)
+  pub clear_far : (g : Float) → fits binary32 g ≡ true → le (times little_more c) g ≡ true → false ≡ within (square_root binary32 c) (square_root binary32 g)
   clear_far g f h =
       let t = subst T (sym h) tt in
-      sym (far g f (above_of_le (times little_more c) g (pm little_more 8840073 more_is more_from more_to) t) t)
+      sym (far g (subst T (sym f) tt) (above_of_le (times little_more c) g (pm little_more 8840073 more_is more_from more_to) t) t)

@@ -124,6 +124,7 @@ fn is_moderate(x: f32) -> bool
 
 // The same, with no root taken where the squares are clearly apart: the roots would take most of the time. The gap is tested first: where a test stands behind
 // the sums that it takes, the compiler works on both coordinates at once.
+#[tactic(auto, using(halves::proofs::Clear::clear_near, halves::proofs::Clear::clear_far))]
 fn is_within(chord: f32, gap: f32) -> bool
     ensures { result ≡ within (square_root binary32 chord) (square_root binary32 gap) }
 {
