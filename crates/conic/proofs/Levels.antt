@@ -1,5 +1,5 @@
 -- The weights of the levels: those of a quarter of a circle (`levels_quarter`), read one level down (`levels_first`, `levels_next`), and kept (`kept_none`, `kept_one`, `kept_down`). Assumes nothing.
-use mathlib.Core.Path.{◌≡◌, refl, sym, ap, ◌∙◌}
+use mathlib.Core.Path.{◌≡◌, refl, sym, ap, ◌∙◌, subst}
 use mathlib.Core.List.{List, [], ◌∷◌}
 use Prim.Native.Nat.{ℕ, zero, suc, ◌-◌, ◌≤◌}
 use native.Mathlib.Omega.{arith}
@@ -8,7 +8,10 @@ use lib.Seq.{get_or-set_other, drop-set-lt}
 use Rattle.std.proofs.lemmas.List.{get_or-drop, drop-drop}
 use native.Mathlib.Nat.{add-zero}
 use native.Mathlib.Numerals.{add-one}
-use lib.Ieee.{Float, binary32, add, mul, of_bits}
+use lib.Ieee.{Float, binary32, add, mul, of_bits, to_bits, fits}
+use lib.Ieee.Bits.{of_bits-to_bits}
+use lib.Dec.{T}
+use mathlib.Core.Bool.{true}
 use Rattle.std.specs.Prelude.{Option, Some, None}
 use Rattle.float.specs.Root.{square_root}
 use Rattle.halves.specs.Conic.{half_weight}
@@ -114,3 +117,9 @@ levels_quarter =
     let three : third ≡ half_weight (half_weight (half_weight quarter)) = is_third ∙ ap half_weight two in
     let four : fourth ≡ half_weight (half_weight (half_weight (half_weight quarter))) = is_fourth ∙ ap half_weight three in
     (known _ _ is_first, (known _ _ two, (known _ _ three, (known _ _ four, (unknown _, (unknown _, tt))))))
+
+-- by its bits
+pub levels_of : (w : Float) → fits binary32 w ≡ true → to_bits binary32 w ≡ 0x3f35_04f3 → Levels 6 w quarter_levels
+levels_of w f e =
+    let q : quarter ≡ w = ap (of_bits binary32) (sym e) ∙ of_bits-to_bits binary32 w (subst T (sym f) tt) in
+    rw (← q) levels_quarter

@@ -46,6 +46,7 @@ const QUARTER_LEVELS: [Option<f32>; DEPTH] = [
 ];
 
 // The weights of the levels that are known beforehand, from the last to the first: those of a quarter of a circle, the arc of circles and rounded corners.
+#[tactic(auto, using(crate::proofs::Levels::levels_of))]
 fn known_levels(weight: f32) -> [Option<f32>; DEPTH]
     ensures { Levels 6 weight result }
 {
