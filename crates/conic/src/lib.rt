@@ -62,12 +62,7 @@ fn level_weight(weight: f32, levels: &mut [Option<f32>; DEPTH], k: usize) -> f32
     requires { (1 ≤ k) × (k ≤ 6) × Levels k weight levels.old }
     ensures { (result ≡ half_weight weight) × KeptLevels k weight levels.old levels.new }
 {
-    if let Some(given) = levels[k - 1] {
-        return given;
-    }
-    let u = split_weight(weight);
-    levels[k - 1] = Some(u);
-    u
+    *levels[k - 1].get_or_insert_with(|| split_weight(weight))
 }
 
 // ---- quads in the buffers: n of them are n verbs, 2 · n points and 4 · n floats
@@ -86,7 +81,8 @@ fn put_quad(h: Half, points: &mut [f32]) -> usize
     1
 }
 
-// Lays the points of a half that may be split k times more, and says how many quads they are. Room is asked for by the depth alone: no rounding changes it.
+// Lays the points of a half that may be split k times more, and says how many quads they are. The recursion goes over k, 6 minus the depth, as the scope names it.
+// Room is asked for by the depth alone: no rounding changes it.
 #[tactic(auto, using(halves::proofs::Pieces::split_more, halves::proofs::Pieces::pieces_most, halves::proofs::Pieces::most_twice, halves::proofs::Pieces::most_few, crate::proofs::Levels::levels_next))]
 fn push_half(
     h: Half,
