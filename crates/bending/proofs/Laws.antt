@@ -1,6 +1,7 @@
 -- Laws of what a conic lays.
+--     room_left                the room behind what goes before its quads
 --     all_verbs, all_twice     how many verbs and points its quads are, with what goes before them
---     bent                     its quads stored behind the opening
+--     bent                     its quads, stored in the rest of both buffers, are what a call lays that is not refused
 --     curved_fits              how many are laid, and their room
 -- Assumes nothing.
 use mathlib.Core.Path.{◌≡◌, refl, ◌∙◌, ap}
