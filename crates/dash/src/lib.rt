@@ -33,32 +33,6 @@ fn check(
     Ok(())
 }
 
-// Flattens into the scratch, and lays the dashes.
-fn cut(
-    verbs: &[u8],
-    points: &[f32],
-    rule: FillRule,
-    cycle: &[f32],
-    phase: f32,
-    tolerance: f32,
-    scratch: &mut [f32],
-    ends: &mut [usize],
-    marks: &mut [u8],
-    vs: &mut [u8],
-    fs: &mut [f32],
-) -> Result<Dashed, Refusal>
-    requires { (length scratch.old % 2 ≡ 0) × (path.check verbs.now points.now ≡ Ok tt) × (0 < length cycle.now) }
-    ensures { (intervals : List Float) → cycle.now ≡ cycle_of intervals → outcome (answer_of result) scratch.new ends.new marks.new vs.new fs.new
-        ≡ cutting verbs.now points.now rule intervals phase tolerance scratch.old ends.old marks.old vs.old fs.old }
-{
-    let f = flatten::flatten(verbs, points, tolerance, scratch, ends, marks)?;
-    let kept = Scratch {
-        points: &scratch[..2 * f.points],
-        ends: &ends[..f.polylines],
-    };
-    walk::cut_scratch(kept, cycle, phase, f.held, rule, vs, fs)
-}
-
 // Cuts a path into the drawn pieces of a dash pattern. Path, pattern, scratch and dash buffers come apart, as C lends them: a struct of lent slices would have
 // to promise of each what it holds afterwards, field by field, as the clause does now in one line.
 pub fn dash_path(
@@ -79,22 +53,23 @@ pub fn dash_path(
 {
     check(verbs, points, intervals, scratch.len(), dash_points.len())?;
     let cycle = pattern::cycle_of(intervals);
-    if pattern::is_cut(intervals, cycle.intervals(), phase, tolerance) {
-        return cut(
-            verbs,
-            points,
-            rule,
-            cycle.intervals(),
-            phase,
-            tolerance,
-            scratch,
-            ends,
-            marks,
-            dash_verbs,
-            dash_points,
-        );
+    if !pattern::is_cut(intervals, cycle.intervals(), phase, tolerance) {
+        return Ok(Dashed::Whole);
     }
-    Ok(Dashed::Whole)
+    let f = flatten::flatten(verbs, points, tolerance, scratch, ends, marks)?;
+    let kept = Scratch {
+        points: &scratch[..2 * f.points],
+        ends: &ends[..f.polylines],
+    };
+    walk::cut_scratch(
+        kept,
+        cycle.intervals(),
+        phase,
+        f.held,
+        rule,
+        dash_verbs,
+        dash_points,
+    )
 }
 
 // The floats of the first n points, where there are so many.

@@ -1,15 +1,15 @@
 -- An answer's number and values tell its case, and how dashing's outcome follows from its tests. Assumes nothing.
 use mathlib.Core.Path.{◌≡◌, refl, sym, ◌∙◌, ap}
-use Prim.Native.Nat.{ℕ, ◌/◌, ◌%◌, ◌≤◌, ◌<◌}
+use Prim.Native.Nat.{ℕ, ◌/◌, ◌%◌}
 use native.Mathlib.Omega.{arith}
 use mathlib.Core.Bool.{Bool, true, false, cond, ◌&&◌, true≢false}
-use mathlib.Core.List.{List, [], ◌∷◌, ◌++◌}
+use mathlib.Core.List.{List, []}
 use mathlib.Core.Option.{none-ne-some, some-injective}
 use lib.ListN.{length}
 use lib.Seq.{sets}
-use lib.Dec.{ltb, eqb}
+use lib.Dec.{ltb}
 use lib.Ieee.{Float}
-use borrow.Author.Tests.{ltb-false, eqb-true, le-leb}
+use borrow.Author.Tests.{eqb-true, le-leb}
 use Rattle.float.specs.Arith.{f0}
 use Rattle.vec2.specs.declared.Vec2.{Vec2}
 use Rattle.vec2.specs.Points.{flat, points_in}
@@ -19,7 +19,6 @@ use Rattle.path.specs.declared.FillRule.{FillRule}
 use Rattle.path.specs.Segment.{segments}
 use Rattle.std.specs.Prelude.{Result, Ok, Err}
 use Rattle.std.specs.Result.{result_and}
-use Rattle.std.proofs.lemmas.Bool.{and_parts}
 use Rattle.std.proofs.lemmas.Grind.{common_steps}
 use Rattle.path.specs.declared.Refusal.{Refusal}
 use Rattle.path.specs.declared.Refusal.TheVariants.{OddFloats, OutputFull, LongPattern}
@@ -27,11 +26,11 @@ use Rattle.path.specs.Check as path
 use Rattle.path.proofs.Refusals.{number_tells}
 use Rattle.polyline.specs.Flatten.{points_out, ends_out, held_curves}
 use Rattle.polyline.specs.Subpaths.{marks_out}
-use Rattle.pattern.specs.Cycle.{max_intervals, some, usable, cycle_of, sum_from, cuts}
+use Rattle.pattern.specs.Cycle.{max_intervals, cycle_of, sum_from, cuts}
 use Rattle.events.specs.Phase.{start_of}
 use Rattle.outline.specs.declared.Dashed.{Dashed}
 use Rattle.outline.specs.declared.Dashed.TheVariants.{Whole, Cut}
-use Rattle.outline.specs.Answer.{Answer, refused_by, drawn_whole, cut_into, answer_of}
+use Rattle.outline.specs.Answer.{Answer, refused_by, cut_into, answer_of}
 use Rattle.outline.specs.declared.Outline.{Outline}
 use Rattle.outline.specs.Dash.{even, check, walked, dashes, scratch_fits, fits_both, cut_outcome, out_if, out_outcome, Outcome, outcome, keeping, cutting, dashing}
 
@@ -86,36 +85,21 @@ module _ (verbs : List ℕ) (points : List Float) (rule : FillRule) (intervals :
   abbrev checked : Result Unit Refusal
   checked = check verbs points intervals (length scratch) (length gs)
 
-  pub is_refused : (r : Refusal) → checked ≡ Err r → outcome (refused_by r) scratch ends marks us gs ≡ dashing verbs points rule intervals phase tolerance scratch ends marks us gs
-  is_refused r h = rw h
-
-  pub whole : checked ≡ Ok tt → cuts intervals phase tolerance ≡ false → outcome drawn_whole scratch ends marks us gs ≡ dashing verbs points rule intervals phase tolerance scratch ends marks us gs
-  whole h k = rw (h, k)
-
   pub is_cut : checked ≡ Ok tt → cuts intervals phase tolerance ≡ true → (o : Outcome)
       → o ≡ cutting verbs points rule intervals phase tolerance scratch ends marks us gs → o ≡ dashing verbs points rule intervals phase tolerance scratch ends marks us gs
   is_cut h k o q = rw (h, k) q
 
-  passes : (a b c : Bool) (r : Result Unit Refusal) (d : Bool) →
-      ◌≡◌ {A = Result Unit Refusal} (cond (a && (b && c)) (result_and r (cond d (Err LongPattern) (Ok tt))) (Err OddFloats)) (Ok tt) → (b ≡ true) × (r ≡ Ok tt) × (d ≡ false)
-  passes a b c (Ok u) d h = grind (arith, common_steps)
-  passes a b c (Err e) d h = grind (arith, common_steps)
+-- ---- what is known where nothing is refused before any work
 
-  -- what is known where nothing is refused
-  pub none_refused : checked ≡ Ok tt → (length scratch % 2 ≡ 0) × (path.check verbs points ≡ Ok tt) × (length intervals ≤ 64)
-  none_refused h =
-      let p = passes (even (length points)) (even (length scratch)) (even (length gs)) (path.check verbs points) (ltb max_intervals (length intervals)) h in
-      (eqb-true _ _ p.0, p.1, ltb-false max_intervals (length intervals) p.2)
+passes : (a b c : Bool) (r : Result Unit Refusal) (d : Bool) →
+    ◌≡◌ {A = Result Unit Refusal} (cond (a && (b && c)) (result_and r (cond d (Err LongPattern) (Ok tt))) (Err OddFloats)) (Ok tt) → (b ≡ true) × (r ≡ Ok tt)
+passes a b c (Ok u) d h = grind (arith, common_steps)
+passes a b c (Err e) d h = grind (arith, common_steps)
 
--- ---- a pattern that is cut has an interval
-
-pub double_some : (xs : List Float) (b : Bool) → some xs ≡ true → 0 < length (cond b xs (xs ++ xs))
-double_some [] b h = absurd (true≢false (sym h))
-double_some (x ∷ xs) true h = omega arith
-double_some (x ∷ xs) false h = omega arith
-
-pub cuts_some : (xs : List Float) (phase tolerance : Float) → cuts xs phase tolerance ≡ true → 0 < length (cycle_of xs)
-cuts_some xs phase tolerance h = double_some xs (eqb (length xs % 2) 0) (and_parts (some xs) _ (and_parts (usable xs phase) _ h).0).0
+pub none_refused : (verbs : List ℕ) (points intervals : List Float) (n m : ℕ) → check verbs points intervals n m ≡ Ok tt → (n % 2 ≡ 0) × (path.check verbs points ≡ Ok tt)
+none_refused verbs points intervals n m h =
+    let p = passes (even (length points)) (even n) (even m) (path.check verbs points) (ltb max_intervals (length intervals)) h in
+    (eqb-true _ _ p.0, p.1)
 
 -- ---- nothing is drawn
 

@@ -152,7 +152,7 @@ module _ (vs : List ℕ) (fs : List Float) (tol : Float) (scratch : List Float) 
         go false q z = let d : a ≡ Err OutputFull = ap (λ (o : Outcome). o.answer) z in absurd (cc)
 
 -- what is left where nothing is refused
-pub left : {vs : List ℕ} {fs : List Float} {tol : Float} {scratch : List Float} {ends marks : List ℕ} (even : length scratch % 2 ≡ 0) (good : check vs fs ≡ Ok tt)
+pub left : {vs : List ℕ} {fs : List Float} {tol : Float} {scratch : List Float} {ends marks : List ℕ} (n : (length scratch % 2 ≡ 0) × (check vs fs ≡ Ok tt))
     {a : Result Flattened Refusal} {s' : List Float} {e' m' : List ℕ} → outcome a s' e' m' ≡ flatten vs fs tol scratch ends marks
-    → {r : Flattened} → a ≡ Ok r → KeptScratch vs fs tol scratch ends marks even good r s' e' m'
-left even good e h = kept _ _ _ _ _ _ even good _ _ _ _ e _ h
+    → {r : Flattened} → a ≡ Ok r → KeptScratch vs fs tol scratch ends marks n.0 n.1 r s' e' m'
+left n e h = kept _ _ _ _ _ _ n.0 n.1 _ _ _ _ e _ h

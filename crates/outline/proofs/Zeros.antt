@@ -1,8 +1,8 @@
 -- Zeros and corners in a pattern: `ZerosAndCorners` holds of every pattern and phase. Assumes nothing.
-use mathlib.Core.Path.{◌≡◌}
+use mathlib.Core.Path.{sym, ◌≡◌}
 use Prim.Native.Nat.{ℕ, ◌%◌, ◌<◌}
 use native.Mathlib.Omega.{arith}
-use mathlib.Core.Bool.{Bool, true, false, not, ◌&&◌}
+use mathlib.Core.Bool.{cond, true≢false, Bool, true, false, not, ◌&&◌}
 use mathlib.Core.List.{List, [], ◌∷◌, ◌++◌}
 use lib.ListN.{length, length-append}
 use lib.Dec.{eqb}
@@ -21,7 +21,6 @@ use Rattle.events.proofs.Source.{walk_as_source, all_as_source}
 use Rattle.events.proofs.Laws.{ends_there}
 use Rattle.events.proofs.Gaps.{first_behind, start_above, next_above_lem, nothing_drawn}
 use Rattle.pattern.proofs.Zeros.{zeros_alone}
-use Rattle.outline.proofs.Answers.{double_some}
 use Rattle.outline.specs.Dash.{dashes}
 use Rattle.outline.specs.Runs.{walk_of}
 use Rattle.outline.specs.Zeros.{source_start, source_walk_of, source_decides_walk, source_dashes, source_decides, ZerosAndCorners}
@@ -29,6 +28,11 @@ use Rattle.outline.specs.Zeros.{source_start, source_walk_of, source_decides_wal
 no_zero_twice : (xs ys : List Float) → no_zero xs ≡ true → no_zero ys ≡ true → no_zero (xs ++ ys) ≡ true
 no_zero_twice [] ys h k = k
 no_zero_twice (x ∷ xs) ys h k = let p = and_parts (not (le x f0)) (no_zero xs) h in both_true p.0 (no_zero_twice xs ys p.1 k)
+
+double_some : (xs : List Float) (b : Bool) → some xs ≡ true → 0 < length (cond b xs (xs ++ xs))
+double_some [] b h = absurd (true≢false (sym h))
+double_some (x ∷ xs) true h = omega arith
+double_some (x ∷ xs) false h = omega arith
 
 -- where the source decides, the working cycle has no zero either, and its length is even and not 0
 record Decided (intervals : List Float) (met : Bool) : Type 0 where

@@ -1,0 +1,52 @@
+-- `dash_path` meets its contract. Assumes nothing.
+use mathlib.Core.Path.{sym, ◌∙◌}
+use Prim.Native.Nat.{◌*◌}
+use native.Mathlib.Omega.{arith}
+use lib.ListN.{take}
+use lib.Seq.{length-take-le}
+use Rattle.std.proofs.lemmas.Result.{err_from_is_err_and}
+use Rattle.outline.proofs.Answers.{scratch_full, scratch_kept, none_refused, is_cut}
+use Rattle.outline.proofs.Scratch.{full, left}
+use Rattle.dash.proofs.dash_path.Goals as goal
+
+pub returns-in_err-f : goal.returns-in_err-f
+returns-in_err-f c =
+    let a = c.args in
+    let f = c.flatten in
+    let z = sym c.check.ensures ∙ c.in_ok-check.was in
+    let n = none_refused _ _ _ _ _ z in
+    let p = err_from_is_err_and c.from_residual-in_err-f.result c.from_residual-in_err-f.ensures.1 in
+    let u = full a.verbs.now a.points.now a.tolerance a.scratch.now a.ends.now a.marks.now n.0 n.1 f.result _ _ _ f.ensures _ c.in_err-f.was in
+    rw (p.1, p.2, u.refusal)
+    (is_cut a.verbs.now a.points.now a.rule a.intervals.now a.phase a.tolerance a.scratch.now a.ends.now a.marks.now a.dash_verbs.now a.dash_points.now z (sym c.is_cut.ensures ∙ c.if-not-is_cut.false) _
+    (scratch_full a.verbs.now a.points.now a.rule a.intervals.now a.phase a.tolerance a.scratch.now a.ends.now a.marks.now a.dash_verbs.now a.dash_points.now u.misfit _ _ _ u.scratch_is u.ends_are u.marks_are))
+
+pub overflow_mul-kept : goal.overflow_mul-kept
+overflow_mul-kept c = omega (arith, (left (none_refused _ _ _ _ _ (sym c.check.ensures ∙ c.in_ok-check.was)) c.flatten.ensures c.in_ok-f.was).room, c.flatten.auto, c.well_formed)
+
+pub slice_bounds-kept-end : goal.slice_bounds-kept-end
+slice_bounds-kept-end c = (left (none_refused _ _ _ _ _ (sym c.check.ensures ∙ c.in_ok-check.was)) c.flatten.ensures c.in_ok-f.was).room
+
+pub slice_bounds-kept-end-2 : goal.slice_bounds-kept-end-2
+slice_bounds-kept-end-2 c = sym (length-take-le _ _ (left (none_refused _ _ _ _ _ (sym c.check.ensures ∙ c.in_ok-check.was)) c.flatten.ensures c.in_ok-f.was).room)
+
+pub slice_bounds-kept-end-3 : goal.slice_bounds-kept-end-3
+slice_bounds-kept-end-3 c = (left (none_refused _ _ _ _ _ (sym c.check.ensures ∙ c.in_ok-check.was)) c.flatten.ensures c.in_ok-f.was).rooms
+
+pub slice_bounds-kept-end-4 : goal.slice_bounds-kept-end-4
+slice_bounds-kept-end-4 c = sym (length-take-le _ _ (left (none_refused _ _ _ _ _ (sym c.check.ensures ∙ c.in_ok-check.was)) c.flatten.ensures c.in_ok-f.was).rooms)
+
+pub invariant_of-kept : goal.invariant_of-kept
+invariant_of-kept c = record { ordered = (left (none_refused _ _ _ _ _ (sym c.check.ensures ∙ c.in_ok-check.was)) c.flatten.ensures c.in_ok-f.was).ordered }
+
+pub returns : goal.returns
+returns c =
+    let a = c.args in
+    let f = c.flatten in
+    let r = c.in_ok-f.f in
+    let z = sym c.check.ensures ∙ c.in_ok-check.was in
+    let k = left (none_refused _ _ _ _ _ z) f.ensures c.in_ok-f.was in
+    is_cut a.verbs.now a.points.now a.rule a.intervals.now a.phase a.tolerance a.scratch.now a.ends.now a.marks.now a.dash_verbs.now a.dash_points.now z (sym c.is_cut.ensures ∙ c.if-not-is_cut.false) _
+    (scratch_kept a.verbs.now a.points.now a.rule a.intervals.now a.phase a.tolerance a.scratch.now a.ends.now a.marks.now a.dash_verbs.now a.dash_points.now k.fit _ _ _ k.scratch_is k.ends_are k.marks_are
+    (take (2 * r.points) f.new.out) (take r.polylines f.new.ends) k.points k.polylines
+    c.intervals-2.result.now (c.intervals-2.ensures ∙ c.cycle_of-cycle.ensures) r.held k.held _ _ _ c.cut_scratch.ensures)
