@@ -67,8 +67,6 @@ fn level_weight(weight: f32, levels: &mut [Option<f32>; DEPTH], k: usize) -> f32
 
 // ---- quads in the buffers: n of them are n verbs, 2 · n points and 4 · n floats
 
-const QUAD: u8 = 2;
-
 // Lays the points of a half's quad at the front.
 #[tactic(auto, using(crate::proofs::Stores::front_set))]
 fn put_quad(h: Half, points: &mut [f32]) -> usize
@@ -123,7 +121,7 @@ fn put_verbs(verbs: &mut [u8], n: usize)
     requires { n ≤ length verbs.old }
     ensures { verbs.new ≡ sets verbs.old 0 (replicate n 2) }
 {
-    verbs[..n].fill(QUAD);
+    verbs[..n].fill(path::QUAD);
 }
 
 // Lays the quads of a conic at the front of both buffers, where 64 have room, and says how many they are.

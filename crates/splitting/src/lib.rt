@@ -48,6 +48,7 @@ pub fn to_of(h: Half) -> Vec2
     Vec2 { x, y }
 }
 
+// The control points of the two halves: the two sums have their terms in another order, so that one function for both would be longer.
 #[tactic(auto, unfolding(halves::specs::Conic::left_of))]
 fn left_ctrl(h: Half, weight: f32) -> Vec2
     ensures { result ≡ left_of (from_of h) (ctrl_of h) weight }
