@@ -54,10 +54,10 @@ fn first_segment(verb: u8, points: &[f32]) -> Segment
     ensures { result ≡ seg_at verb points.now 0 }
 {
     match verb {
-        0 => Segment::Move(point_at(points, 0)),
-        1 => Segment::Line(point_at(points, 0)),
-        2 => Segment::Quad(point_at(points, 0), point_at(points, 1)),
-        3 => Segment::Cubic(
+        path::MOVE => Segment::Move(point_at(points, 0)),
+        path::LINE => Segment::Line(point_at(points, 0)),
+        path::QUAD => Segment::Quad(point_at(points, 0), point_at(points, 1)),
+        path::CUBIC => Segment::Cubic(
             point_at(points, 0),
             point_at(points, 1),
             point_at(points, 2),
