@@ -73,14 +73,7 @@ fn point_of(x: u32, y: u32) -> Vec2 {
     Vec2::new(f32_from_bits_with_nan(x), f32_from_bits_with_nan(y))
 }
 
-fn rule_of(n: u32) -> FillRule {
-    match n {
-        0 => FillRule::NonZero,
-        _ => FillRule::EvenOdd,
-    }
-}
-
-// A call: its kind, then its points and floats. None for a number that is no kind.
+// A call: its kind, by the list's number, then its points and floats. None for a number that is no kind.
 fn call_of(words: [u32; 7]) -> Option<Call> {
     let [kind, x0, y0, x1, y1, x2, y2] = words;
     let p = point_of(x0, y0);
@@ -93,7 +86,7 @@ fn call_of(words: [u32; 7]) -> Option<Call> {
         3 => Some(Call::CubicTo(p, q, r)),
         4 => Some(Call::Close),
         5 => Some(Call::ConicTo(p, q, r.x)),
-        6 => Some(Call::WithFillRule(rule_of(x0))),
+        6 => Some(Call::WithFillRule(FillRule::from(u8::from(x0 != 0)))),
         7 => Some(Call::AsRoundedRect(Rect::new(p, q), r.x)),
         _ => None,
     }
@@ -101,59 +94,49 @@ fn call_of(words: [u32; 7]) -> Option<Call> {
 
 // ---- comparing
 
-// The answers that are still to be met, and whether all before them were as listed.
+// The answers that are still to be met.
 #[derive(Drop)]
-struct Tape<'a> {
-    rest: &'a [u32],
-    same: bool,
-}
+struct Tape<'a>(&'a [u32]);
 
 // What the list has words for.
 trait Listed {
-    fn meet(self, tape: &mut Tape);
+    // None where the list has another answer next, or no more.
+    fn meet(self, tape: &mut Tape) -> Option<()>;
 }
 
-impl<'a> Tape<'a> {
+impl Tape<'_> {
     fn next(&mut self) -> Option<u32> {
-        let (word, rest) = self.rest.split_first()?;
-        self.rest = rest;
+        let (word, rest) = self.0.split_first()?;
+        self.0 = rest;
         Some(*word)
     }
 
-    fn note(&mut self, same: bool) {
-        self.same = self.same && same;
-    }
-
-    fn expect<T: Listed>(&mut self, answer: T) {
-        answer.meet(self);
+    fn expect<T: Listed>(&mut self, answer: T) -> Option<()> {
+        answer.meet(self)
     }
 }
 
 impl Listed for u32 {
-    fn meet(self, tape: &mut Tape) {
-        let listed = tape.next();
-        tape.note(listed == Some(self));
+    fn meet(self, tape: &mut Tape) -> Option<()> {
+        (tape.next()? == self).then_some(())
     }
 }
 
 impl Listed for u8 {
-    fn meet(self, tape: &mut Tape) {
-        tape.expect(u32::from(self));
+    fn meet(self, tape: &mut Tape) -> Option<()> {
+        tape.expect(u32::from(self))
     }
 }
 
 impl Listed for bool {
-    fn meet(self, tape: &mut Tape) {
-        tape.expect(u32::from(self));
+    fn meet(self, tape: &mut Tape) -> Option<()> {
+        tape.expect(u32::from(self))
     }
 }
 
 impl Listed for usize {
-    fn meet(self, tape: &mut Tape) {
-        match u32::try_from(self) {
-            Ok(n) => tape.expect(n),
-            Err(_) => tape.note(false),
-        }
+    fn meet(self, tape: &mut Tape) -> Option<()> {
+        tape.expect(u32::try_from(self).ok()?)
     }
 }
 
@@ -163,76 +146,77 @@ fn pattern(word: u32) -> u32 {
 }
 
 impl Listed for f32 {
-    fn meet(self, tape: &mut Tape) {
-        let listed = tape.next().map(pattern);
-        tape.note(listed == Some(f32_to_bits_with_nan(self)));
+    fn meet(self, tape: &mut Tape) -> Option<()> {
+        (pattern(tape.next()?) == f32_to_bits_with_nan(self)).then_some(())
     }
 }
 
 impl Listed for Vec2 {
-    fn meet(self, tape: &mut Tape) {
-        tape.expect(self.x);
-        tape.expect(self.y);
+    fn meet(self, tape: &mut Tape) -> Option<()> {
+        tape.expect(self.x)?;
+        tape.expect(self.y)
     }
 }
 
 impl Listed for Rect {
-    fn meet(self, tape: &mut Tape) {
-        tape.expect(self.min);
-        tape.expect(self.max);
+    fn meet(self, tape: &mut Tape) -> Option<()> {
+        tape.expect(self.min)?;
+        tape.expect(self.max)
     }
 }
 
 impl Listed for RoundedRect {
-    fn meet(self, tape: &mut Tape) {
-        tape.expect(self.rect);
-        tape.expect(self.radius);
+    fn meet(self, tape: &mut Tape) -> Option<()> {
+        tape.expect(self.rect)?;
+        tape.expect(self.radius)
     }
 }
 
 impl Listed for FillRule {
-    fn meet(self, tape: &mut Tape) {
-        tape.expect(match self {
-            FillRule::NonZero => 0u32,
-            FillRule::EvenOdd => 1,
-        });
+    fn meet(self, tape: &mut Tape) -> Option<()> {
+        tape.expect(u8::from(self))
     }
 }
 
 impl<T: Listed + Copy> Listed for &[T] {
-    fn meet(self, tape: &mut Tape) {
-        tape.expect(self.len());
+    fn meet(self, tape: &mut Tape) -> Option<()> {
+        tape.expect(self.len())?;
         for x in self {
-            tape.expect(*x);
+            tape.expect(*x)?;
         }
+        Some(())
     }
 }
 
 impl Listed for Convexity {
-    fn meet(self, tape: &mut Tape) {
-        tape.expect(match self {
-            Convexity::Convex => 0u32,
-            Convexity::Concave => 1,
-        });
+    fn meet(self, tape: &mut Tape) -> Option<()> {
+        tape.expect(self as u8)
+    }
+}
+
+impl Listed for SegmentCount {
+    fn meet(self, tape: &mut Tape) -> Option<()> {
+        tape.expect(self.count)?;
+        tape.expect(self.held)
     }
 }
 
 impl Listed for Flattened {
-    fn meet(self, tape: &mut Tape) {
-        tape.expect(self.starts);
-        tape.expect(self.lines);
-        tape.expect(self.counts);
-        tape.expect(self.closings);
-        tape.expect(self.held);
+    fn meet(self, tape: &mut Tape) -> Option<()> {
+        tape.expect(self.starts)?;
+        tape.expect(self.lines)?;
+        tape.expect(self.counts)?;
+        tape.expect(self.closings)?;
+        tape.expect(self.held)
     }
 }
 
-impl<T: Listed> Listed for Option<T> {
-    fn meet(self, tape: &mut Tape) {
+impl<T: Listed + Drop> Listed for Option<T> {
+    fn meet(self, tape: &mut Tape) -> Option<()> {
         match self {
             Some(x) => {
-                tape.expect(true);
-                tape.expect(x);
+                tape.expect(true)?;
+                tape.expect(x)
             }
             None => tape.expect(false),
         }
@@ -250,9 +234,9 @@ fn points(floats: &[f32], n: usize) -> &[f32] {
 }
 
 // As many of the first marks as the list has: the polylines', and of the bytes behind them two, or as many as are lent.
-fn expect_marks(tape: &mut Tape, marks: &[u8]) {
-    let n = tape.rest.first().map_or(0, |n| *n as usize);
-    tape.expect(first(marks, n));
+fn expect_marks(tape: &mut Tape, marks: &[u8]) -> Option<()> {
+    let n = *tape.0.first()? as usize;
+    tape.expect(first(marks, n))
 }
 
 // ---- asking
@@ -293,27 +277,27 @@ fn number_of<T>(answer: &Result<T, Refusal>) -> u8 {
 }
 
 impl Asked<'_> {
-    fn ask_bounds(self, tape: &mut Tape) {
+    fn ask_bounds(self, tape: &mut Tape) -> Option<()> {
         let answer = bounds::bounds(self.verbs, self.points);
-        tape.expect(number_of(&answer));
+        tape.expect(number_of(&answer))?;
         let rect = answer.unwrap_or(Rect::empty());
-        tape.expect(rect);
-        tape.expect(rect.width());
-        tape.expect(rect.height());
-        tape.expect(rect.is_empty());
-        tape.expect(bounds::is_finite(self.verbs, self.points).unwrap_or(false));
-        tape.expect(bounds::is_within_tessellation_range(self.verbs, self.points).unwrap_or(false));
+        tape.expect(rect)?;
+        tape.expect(rect.width())?;
+        tape.expect(rect.height())?;
+        tape.expect(rect.is_empty())?;
+        tape.expect(bounds::is_finite(self.verbs, self.points).unwrap_or(false))?;
+        tape.expect(bounds::is_within_tessellation_range(self.verbs, self.points).unwrap_or(false))
     }
 
-    fn ask_convexity(self, tape: &mut Tape) {
+    fn ask_convexity(self, tape: &mut Tape) -> Option<()> {
         let convexity = convexity::convexity(self.verbs, self.points);
-        tape.expect(convexity.unwrap_or(Convexity::Concave));
+        tape.expect(convexity.unwrap_or(Convexity::Concave))?;
         let convexity = convexity::polygon_convexity(self.points);
-        tape.expect(convexity.unwrap_or(Convexity::Concave));
+        tape.expect(convexity.unwrap_or(Convexity::Concave))
     }
 
     // Flattens with room for every mark.
-    fn ask_flatten(self, tape: &mut Tape) {
+    fn ask_flatten(self, tape: &mut Tape) -> Option<()> {
         let mut out = [0.0; 4096];
         let mut ends = [0; 256];
         let mut marks = [165; 256];
@@ -325,16 +309,16 @@ impl Asked<'_> {
             &mut ends,
             &mut marks,
         );
-        tape.expect(number_of(&r));
+        tape.expect(number_of(&r))?;
         let r = r.unwrap_or(NO_TOTALS);
-        tape.expect(r);
-        tape.expect(points(&out, r.points));
-        tape.expect(first(&ends, r.polylines));
-        expect_marks(tape, &marks);
+        tape.expect(r)?;
+        tape.expect(points(&out, r.points))?;
+        tape.expect(first(&ends, r.polylines))?;
+        expect_marks(tape, &marks)
     }
 
     // Flattens with room for as many marks as `marks` takes. Where there are more polylines, 3, and every buffer is as it was.
-    fn ask_room(self, tape: &mut Tape, marks: &mut [u8]) {
+    fn ask_room(self, tape: &mut Tape, marks: &mut [u8]) -> Option<()> {
         let mut out = [77.5; 4096];
         let mut ends = [7777; 256];
         let r = flatten::flatten(
@@ -345,24 +329,23 @@ impl Asked<'_> {
             &mut ends,
             marks,
         );
-        tape.expect(number_of(&r));
-        tape.expect(r.unwrap_or(NO_TOTALS).polylines);
-        expect_front(tape, &out, &ends, marks);
+        tape.expect(number_of(&r))?;
+        tape.expect(r.unwrap_or(NO_TOTALS).polylines)?;
+        expect_front(tape, &out, &ends, marks)
     }
 
     // The N of every verb, and whether it was held back.
-    fn ask_counts(self, tape: &mut Tape) {
+    fn ask_counts(self, tape: &mut Tape) -> Option<()> {
         for i in 0..self.verbs.len() {
             let n = flatten::carried_count(self.verbs, self.points, self.tolerance, i);
-            let n = n.unwrap_or(NO_COUNT);
-            tape.expect(n.count);
-            tape.expect(n.held);
+            tape.expect(n.unwrap_or(NO_COUNT))?;
         }
+        Some(())
     }
 
     // Dashes with room for as many verbs as `laid` takes and for as many of the scratch's marks as `marks` takes. The scratch is left alone where the
     // path is drawn whole or the scratch is too small, and holds the flattened path where it is cut or the dash buffers are too small.
-    fn ask_dash(self, tape: &mut Tape, laid: &mut [u8], marks: &mut [u8]) {
+    fn ask_dash(self, tape: &mut Tape, laid: &mut [u8], marks: &mut [u8]) -> Option<()> {
         let mut scratch = [77.5; 4096];
         let mut ends = [7777; 256];
         let mut drawn = [0.0; 4096];
@@ -379,42 +362,47 @@ impl Asked<'_> {
             laid,
             &mut drawn,
         );
-        expect_dashed(tape, d, laid, &drawn);
-        expect_front(tape, &scratch, &ends, marks);
+        expect_dashed(tape, d, laid, &drawn)?;
+        expect_front(tape, &scratch, &ends, marks)
     }
 
     // Whether the pattern is usable; dashes with room for every verb and mark, again with room for one verb, which mostly meets the second 3, again with
     // room for four, which are often just as many or one too few, and again with room for one mark, where two polylines meet the first.
-    fn ask_dashes(self, tape: &mut Tape) {
-        tape.expect(pattern::is_usable(self.intervals, self.phase));
-        self.ask_dash(tape, &mut [0; 2048], &mut [165; 256]);
-        self.ask_dash(tape, &mut [0; 1], &mut [165; 256]);
-        self.ask_dash(tape, &mut [0; 4], &mut [165; 256]);
-        self.ask_dash(tape, &mut [0; 2048], &mut [165; 1]);
+    fn ask_dashes(self, tape: &mut Tape) -> Option<()> {
+        tape.expect(pattern::is_usable(self.intervals, self.phase))?;
+        self.ask_dash(tape, &mut [0; 2048], &mut [165; 256])?;
+        self.ask_dash(tape, &mut [0; 1], &mut [165; 256])?;
+        self.ask_dash(tape, &mut [0; 4], &mut [165; 256])?;
+        self.ask_dash(tape, &mut [0; 2048], &mut [165; 1])
     }
 }
 
 // The front of the buffers that a flattening writes: a point, an end and the marks.
-fn expect_front(tape: &mut Tape, out: &[f32], ends: &[usize], marks: &[u8]) {
-    tape.expect(first(out, 2));
-    tape.expect(first(ends, 1));
-    expect_marks(tape, marks);
+fn expect_front(tape: &mut Tape, out: &[f32], ends: &[usize], marks: &[u8]) -> Option<()> {
+    tape.expect(first(out, 2))?;
+    tape.expect(first(ends, 1))?;
+    expect_marks(tape, marks)
 }
 
-// An answer of dashing, and what it left in the dash buffers. Only what is cut has a number of curves held back.
-fn expect_dashed(tape: &mut Tape, d: Result<Dashed, Refusal>, laid: &[u8], drawn: &[f32]) {
+// An answer of dashing, by the list's number, and what it left in the dash buffers. Only what is cut has a number of curves held back.
+fn expect_dashed(
+    tape: &mut Tape,
+    d: Result<Dashed, Refusal>,
+    laid: &[u8],
+    drawn: &[f32],
+) -> Option<()> {
     match d {
-        Ok(Dashed::Whole) => tape.expect(0u32),
+        Ok(Dashed::Whole) => tape.expect(0u8),
         Ok(Dashed::Cut(o)) => {
-            tape.expect(1u32);
-            tape.expect(o.rule);
-            tape.expect(o.held);
-            tape.expect(first(laid, o.verbs));
-            tape.expect(points(drawn, o.points));
+            tape.expect(1u8)?;
+            tape.expect(o.rule)?;
+            tape.expect(o.held)?;
+            tape.expect(first(laid, o.verbs))?;
+            tape.expect(points(drawn, o.points))
         }
         Err(refusal) => {
-            tape.expect(2u32);
-            tape.expect(u8::from(refusal));
+            tape.expect(2u8)?;
+            tape.expect(u8::from(refusal))
         }
     }
 }
@@ -430,20 +418,17 @@ fn build(
     for words in calls {
         let r = common::play(b, call_of(*words)?, verbs, points);
         b = r.state;
-        tape.expect(r.quads.unwrap_or(0));
-        tape.expect(number_of(&r.quads));
+        tape.expect(r.quads.unwrap_or(0))?;
+        tape.expect(number_of(&r.quads))?;
     }
     Some(b)
 }
 
-// Whether every answer of a case is the listed one, and no more are listed.
-fn run(case: Case, intervals: &[f32]) -> Option<bool> {
+// None where an answer of a case is not the listed one, or more are listed.
+fn run(case: Case, intervals: &[f32]) -> Option<()> {
     let mut verbs = [0; 512];
     let mut floats = [0.0; 2048];
-    let mut tape = Tape {
-        rest: case.answers,
-        same: true,
-    };
+    let mut tape = Tape(case.answers);
     let b = build(&mut tape, case.calls, &mut verbs, &mut floats)?;
     let asked = Asked {
         verbs: first(&verbs, b.verbs),
@@ -453,20 +438,20 @@ fn run(case: Case, intervals: &[f32]) -> Option<bool> {
         phase: case.phase,
         intervals,
     };
-    tape.expect(asked.verbs);
-    tape.expect(asked.points);
-    tape.expect(b.current_point());
-    tape.expect(b.fill_rule);
-    tape.expect(b.rounded_rect());
-    asked.ask_bounds(&mut tape);
-    asked.ask_convexity(&mut tape);
-    asked.ask_flatten(&mut tape);
-    asked.ask_room(&mut tape, &mut [165; 1]);
-    asked.ask_room(&mut tape, &mut [165; 2]);
-    asked.ask_counts(&mut tape);
-    asked.ask_dashes(&mut tape);
-    tape.expect(curve::tolerance_for_scale(case.tolerance, case.scale));
-    Some(tape.same && tape.rest.is_empty())
+    tape.expect(asked.verbs)?;
+    tape.expect(asked.points)?;
+    tape.expect(b.current_point())?;
+    tape.expect(b.fill_rule)?;
+    tape.expect(b.rounded_rect())?;
+    asked.ask_bounds(&mut tape)?;
+    asked.ask_convexity(&mut tape)?;
+    asked.ask_flatten(&mut tape)?;
+    asked.ask_room(&mut tape, &mut [165; 1])?;
+    asked.ask_room(&mut tape, &mut [165; 2])?;
+    asked.ask_counts(&mut tape)?;
+    asked.ask_dashes(&mut tape)?;
+    tape.expect(curve::tolerance_for_scale(case.tolerance, case.scale))?;
+    tape.0.is_empty().then_some(())
 }
 
 fn replay(alloc: Global, words: &[u32]) -> Result<bool, AllocError> {
@@ -478,7 +463,7 @@ fn replay(alloc: Global, words: &[u32]) -> Result<bool, AllocError> {
         .iter()
         .map(|word| f32_from_bits_with_nan(*word))
         .collect(alloc)?;
-    Ok(run(case, intervals.as_slice()).unwrap_or(false))
+    Ok(run(case, intervals.as_slice()).is_some())
 }
 
 fn main(rt: HostRuntime) -> io::Result<()> {
