@@ -5,7 +5,7 @@
 use vec2::Vec2;
 
 // The answer: the totals, and how many curves were held back (W2).
-#[derive(Clone, Copy, PartialEq, Eq)]
+#[derive(Clone, Copy, PartialEq, Eq, Default)]
 pub struct Flattened {
     pub points: usize,
     pub polylines: usize,
