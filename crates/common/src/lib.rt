@@ -8,6 +8,7 @@ ghost use Rattle.std.specs.Float.Ieee.{eq, of_int};
 ghost use Rattle.builder.specs.Build.{outcome, called, settled};
 
 use builder::{Call, PathBuilder, Reply};
+use path::Refusal;
 use std::fmt;
 use turns::Convexity;
 
@@ -43,6 +44,19 @@ pub fn whole(x: f32, limit: u16) -> Option<u16>
     ensures { result ≡ find (λ n. eq (of_int binary32 (pos n)) x) (range_with_len 0 limit) }
 {
     (0..limit).find(|n| f32::from(*n) == x)
+}
+
+// An answer, or the number that refuses it.
+#[derive(Clone, Copy)]
+pub struct Told<T>(pub Result<T, Refusal>);
+
+impl<T: fmt::Display> fmt::Display for Told<T> {
+    fn fmt<W: fmt::Write>(&self, f: &mut fmt::Formatter<W>) -> fmt::Result {
+        match &self.0 {
+            Ok(answer) => write!(f, "{answer}"),
+            Err(refusal) => write!(f, "refused {}", u8::from(*refusal)),
+        }
+    }
 }
 
 // `Convex` or `Concave`.

@@ -3,17 +3,17 @@
 // differs is written out.
 #![tactic(auto)]
 
+use float::SegmentCount;
 use std::io;
 use std::io::{BufRead, BufReader, ErrorKind};
 use std::num::{f32_from_bits_with_nan, f32_to_bits_with_nan};
 
-// What a line says: an operand's bits, those of its root, its count, and whether that was held back.
+// What a line says: an operand's bits, those of its root, and its count.
 #[derive(Clone, Copy)]
 struct Line {
     operand: u32,
     root: u32,
-    count: u32,
-    held: bool,
+    answer: SegmentCount,
 }
 
 // Whether a line's root, its count and whether that was held back are what the library gives.
@@ -25,7 +25,7 @@ struct Found {
 }
 
 // How many lines there are, and of how many the root, the count and whether that was held back are what the library gives.
-#[derive(Clone, Copy)]
+#[derive(Clone, Copy, Default)]
 struct Tally {
     lines: u64,
     roots: u64,
@@ -46,8 +46,10 @@ impl Line {
         Some(Line {
             operand,
             root,
-            count: told % 0x8000,
-            held: 0x8000 <= told,
+            answer: SegmentCount {
+                count: told % 0x8000,
+                held: 0x8000 <= told,
+            },
         })
     }
 
@@ -57,8 +59,8 @@ impl Line {
         let answer = count::segment_count(operand);
         Found {
             root: f32_to_bits_with_nan(root::sqrt(operand)) == self.root,
-            count: answer.count == self.count,
-            held: answer.held == self.held,
+            count: answer.count == self.answer.count,
+            held: answer.held == self.answer.held,
         }
     }
 }
@@ -79,12 +81,7 @@ impl Tally {
 }
 
 fn main(rt: HostRuntime) -> io::Result<()> {
-    let mut tally = Tally {
-        lines: 0,
-        roots: 0,
-        counts: 0,
-        held: 0,
-    };
+    let mut tally = Tally::default();
     for text in BufReader::new(rt.alloc(), rt.reader())?.lines(rt.alloc()) {
         let text = text?;
         let line = Line::parse(text.as_str()).ok_or(ErrorKind::InvalidData)?;
