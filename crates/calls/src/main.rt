@@ -9,7 +9,7 @@
 
 use builder::{Call, PathBuilder, Reply, RoundedRect};
 use common::YesNo;
-use path::FillRule;
+use path::{FillRule, Refusal};
 use rect::Rect;
 use std::io::{BufRead, BufReader, ErrorKind};
 use std::{fmt, io};
@@ -23,19 +23,17 @@ struct Fields<'a>(&'a str);
 
 impl Fields<'_> {
     // The next field's sign, and its number.
-    fn next(&mut self) -> (&str, &str) {
-        let Some((field, rest)) = self.0.split_at_checked(7) else {
-            return ("", "");
-        };
+    fn next(&mut self) -> Option<(&str, &str)> {
+        let (field, rest) = self.0.split_at_checked(7)?;
         self.0 = rest;
-        match field.split_at_checked(1) {
-            Some((sign, number)) => (sign, number.trim()),
-            None => ("", ""),
-        }
+        let (sign, number) = field.split_at_checked(1)?;
+        Some((sign, number.trim()))
     }
 
     fn count(&mut self) -> usize {
-        let (_, number) = self.next();
+        let Some((_, number)) = self.next() else {
+            return 0;
+        };
         number.parse().unwrap_or(0)
     }
 
@@ -47,7 +45,9 @@ impl Fields<'_> {
     }
 
     fn float(&mut self) -> f32 {
-        let (sign, number) = self.next();
+        let Some((sign, number)) = self.next() else {
+            return 0.0;
+        };
         let x = number.parse().unwrap_or(0.0);
         if sign == "-" { -x } else { x }
     }
@@ -98,13 +98,14 @@ impl<'a> Line<'a> {
 // A state as it is handed in.
 fn handed_in(line: Line) -> PathBuilder {
     let mut fields = line.fields;
-    let mut b = PathBuilder::new();
-    b.verbs = fields.count();
-    b.points = fields.count();
-    b.started = fields.count() == 1;
-    b.pen_x = fields.float();
-    b.pen_y = fields.float();
-    b
+    PathBuilder {
+        verbs: fields.count(),
+        points: fields.count(),
+        started: fields.count() == 1,
+        pen_x: fields.float(),
+        pen_y: fields.float(),
+        ..PathBuilder::new()
+    }
 }
 
 // ---- what is printed
@@ -134,15 +135,24 @@ impl fmt::Display for Point {
     }
 }
 
+// What refuses a call, and how many quads it gave; 0 where there is none.
+#[derive(Clone, Copy)]
+struct Quads(Result<usize, Refusal>);
+
+impl fmt::Display for Quads {
+    fn fmt<W: fmt::Write>(&self, f: &mut fmt::Formatter<W>) -> fmt::Result {
+        match self.0 {
+            Ok(quads) => write!(f, "refused 0 quads {quads}"),
+            Err(refusal) => write!(f, "refused {} quads 0", u8::from(refusal)),
+        }
+    }
+}
+
 fn print_reply(rt: &impl Print, name: &str, r: Reply) -> io::Result<()> {
     let b = r.state;
     let start = Point(Vec2::new(b.start_x, b.start_y));
     let pen = Point(Vec2::new(b.pen_x, b.pen_y));
-    let (refused, quads) = match r.quads {
-        Ok(quads) => (0, quads),
-        Err(refusal) => (u8::from(refusal), 0),
-    };
-    print!(rt; "{name}: refused {refused} quads {quads}")?;
+    print!(rt; "{name}: {}", Quads(r.quads))?;
     print!(rt;
         " verbs {} points {} started {}",
         b.verbs,
@@ -200,7 +210,8 @@ fn print_sample(rt: &impl Print, verbs: &[u8], points: &[f32]) -> io::Result<()>
 
 // ---- the calls
 
-// Plays a line, and returns the state behind it.
+// Plays a line, and returns the state behind it. Verbs and points are two arguments, as every call of a builder takes them: a struct
+// of both would be made for this call and taken apart in it.
 fn step(
     rt: &impl Print,
     line: Line,
@@ -227,8 +238,8 @@ fn step(
     Ok(b)
 }
 
-// The part of a buffer that is lent.
-#[derive(Clone, Copy)]
+// The part of a buffer that is lent. A `Range` is no `Copy`.
+#[derive(Clone, Copy, Default)]
 struct Part {
     start: usize,
     end: usize,
@@ -245,8 +256,8 @@ impl Part {
 fn main(rt: HostRuntime) -> io::Result<()> {
     let mut verbs = [9; 65538];
     let mut points = [7.0; 262148];
-    let mut lent_verbs = Part { start: 0, end: 0 };
-    let mut lent_points = Part { start: 0, end: 0 };
+    let mut lent_verbs = Part::default();
+    let mut lent_points = Part::default();
     let mut b = PathBuilder::new();
     for text in BufReader::new(rt.alloc(), rt.reader())?.lines(rt.alloc()) {
         let text = text?;

@@ -2,10 +2,10 @@
 #![tactic(auto)]
 
 use builder::PathBuilder;
-use common::Shape;
+use common::{Shape, Told};
 use outline::{Dashed, Outline};
 use path::{FillRule, Segment};
-use segments::Segments;
+use segments::Path;
 use std::{fmt, io};
 use vec2::Vec2;
 
@@ -44,43 +44,36 @@ impl fmt::Display for Piece {
     }
 }
 
-#[derive(Clone, Copy)]
-struct Path<'a> {
-    verbs: &'a [u8],
-    points: &'a [f32],
-}
+// All segments of a path.
+#[derive(Drop)]
+struct Drawn<'a>(Path<'a>);
 
-impl<'a> Path<'a> {
-    // The filled part of two buffers: so many verbs and points. None where these are more than the buffers hold.
-    fn filled(verbs: &'a [u8], points: &'a [f32], v: usize, p: usize) -> Option<Path<'a>> {
-        Some(Path {
-            verbs: verbs.get(..v)?,
-            points: points.get(..p.checked_mul(2)?)?,
-        })
-    }
-}
-
-impl fmt::Display for Path<'_> {
+impl fmt::Display for Drawn<'_> {
     fn fmt<W: fmt::Write>(&self, f: &mut fmt::Formatter<W>) -> fmt::Result {
-        for segment in Segments::new(self.verbs, self.points) {
+        for segment in self.0.segments() {
             write!(f, " {}", Piece(segment))?;
         }
         Ok(())
     }
 }
 
+// The path in the filled part of two buffers: so many verbs and points. None where these are no path, or more than the buffers hold.
+fn filled<'a>(verbs: &'a [u8], points: &'a [f32], v: usize, p: usize) -> Option<Path<'a>> {
+    Path::new(verbs.get(..v)?, points.get(..p.checked_mul(2)?)?).ok()
+}
+
 // ---- dashing
 
 // The filled part of the dash buffers.
 fn print_cut(rt: &impl Print, verbs: &[u8], points: &[f32], cut: Outline) -> io::Result<()> {
-    match Path::filled(verbs, points, cut.verbs, cut.points) {
+    match filled(verbs, points, cut.verbs, cut.points).map(Drawn) {
         Some(drawn) => println!(rt; " Cut:{drawn}"),
         None => println!(rt; " Cut: NO"),
     }
 }
 
 // Cuts a path at tolerance 0.25 and phase 0, and prints what is drawn.
-fn print_dashed(rt: &impl Print, path: Path, intervals: &[f32]) -> io::Result<()> {
+fn print_dashed(rt: &impl Print, path: &Path, intervals: &[f32]) -> io::Result<()> {
     let mut scratch = [0.0f32; 64];
     let mut ends = [0usize; 8];
     let mut marks = [0u8; 8];
@@ -118,8 +111,8 @@ fn print_played(
     let mut verbs = [0u8; 16];
     let mut points = [0.0f32; 32];
     let state = replay::replay(kinds, numbers, &mut verbs, &mut points).state;
-    match Path::filled(&verbs, &points, state.verbs, state.points) {
-        Some(path) => print_dashed(rt, path, intervals),
+    match filled(&verbs, &points, state.verbs, state.points) {
+        Some(path) => print_dashed(rt, &path, intervals),
         None => println!(rt; " NO"),
     }
 }
@@ -144,10 +137,8 @@ fn print_conic(rt: &impl Print) -> io::Result<()> {
 // ---- convexity
 
 fn print_verdict(rt: &impl Print, what: &str, points: &[f32]) -> io::Result<()> {
-    match convexity::polygon_convexity(points).map(Shape) {
-        Ok(shape) => println!(rt; "{what}: {shape}"),
-        Err(refusal) => println!(rt; "{what}: refused {}", u8::from(refusal)),
-    }
+    let verdict = Told(convexity::polygon_convexity(points).map(Shape));
+    println!(rt; "{what}: {verdict}")
 }
 
 fn print_polygons(rt: &impl Print) -> io::Result<()> {

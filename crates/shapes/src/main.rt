@@ -1,30 +1,17 @@
 // Outlines and the answers to the questions about them: convexity, bounds, finiteness and range. The expected lines stand in `stdout`.
 #![tactic(auto)]
 
-use common::{Shape, YesNo};
+use common::{Shape, Told, YesNo};
 use path::Refusal;
 use rect::Rect;
-use std::{fmt, io};
+use std::io;
 use vec2::Vec2;
-
-// ---- the library's answers, and how they are told
-
-// An answer, or the number of a refusal, which is told alike for every question.
-fn tell<T: fmt::Display + Drop>(
-    rt: &impl Print,
-    name: &str,
-    answer: Result<T, Refusal>,
-) -> io::Result<()> {
-    match answer {
-        Ok(answer) => println!(rt; "{name}: {answer}"),
-        Err(refusal) => println!(rt; "{name}: refused {}", u8::from(refusal)),
-    }
-}
 
 // ---- convexity
 
 fn polygon(rt: &impl Print, name: &str, points: &[f32]) -> io::Result<()> {
-    tell(rt, name, convexity::polygon_convexity(points).map(Shape))
+    let shape = Told(convexity::polygon_convexity(points).map(Shape));
+    println!(rt; "{name}: {shape}")
 }
 
 fn polygons(rt: &impl Print, list: &[(&str, &[f32])]) -> io::Result<()> {
@@ -240,13 +227,12 @@ fn past_the_limit(rt: &impl Print) -> io::Result<()> {
 // ---- finiteness and range
 
 fn outline(rt: &impl Print, name: &str, verbs: &[u8], points: &[f32]) -> io::Result<()> {
-    tell(rt, name, convexity::convexity(verbs, points).map(Shape))?;
-    tell(rt, "  finite", bounds::is_finite(verbs, points).map(YesNo))?;
-    tell(
-        rt,
-        "  in range",
-        bounds::is_within_tessellation_range(verbs, points).map(YesNo),
-    )
+    let shape = Told(convexity::convexity(verbs, points).map(Shape));
+    let finite = Told(bounds::is_finite(verbs, points).map(YesNo));
+    let in_range = Told(bounds::is_within_tessellation_range(verbs, points).map(YesNo));
+    println!(rt; "{name}: {shape}")?;
+    println!(rt; "  finite: {finite}")?;
+    println!(rt; "  in range: {in_range}")
 }
 
 fn outlines(rt: &impl Print, list: &[(&str, &[u8], &[f32])]) -> io::Result<()> {
@@ -342,7 +328,7 @@ fn empty_rect(rt: &impl Print) -> io::Result<()> {
             ("  width 0", r.width() == 0.0),
             ("  height 0", r.height() == 0.0),
             ("  holds (0, 0)", r.contains(Vec2::zero())),
-            ("refused by 1", matches!(refused, Err(Refusal::OddFloats))),
+            ("refused by 1", refused == Err(Refusal::OddFloats)),
             ("  empty", refused.unwrap_or(Rect::empty()).is_empty()),
         ],
     )
