@@ -252,23 +252,7 @@ struct Asked<'a> {
     intervals: &'a [f32],
 }
 
-// What the list has where a call is refused.
-const NO_TOTALS: Flattened = Flattened {
-    points: 0,
-    polylines: 0,
-    starts: 0,
-    lines: 0,
-    counts: 0,
-    closings: 0,
-    held: 0,
-};
-
-const NO_COUNT: SegmentCount = SegmentCount {
-    count: 0,
-    held: false,
-};
-
-// The number that refuses, 0 for none.
+// The number that refuses, 0 for none; for the answer the list has zeros then.
 fn number_of<T>(answer: &Result<T, Refusal>) -> u8 {
     match answer {
         Ok(_) => 0,
@@ -310,7 +294,7 @@ impl Asked<'_> {
             &mut marks,
         );
         tape.expect(number_of(&r))?;
-        let r = r.unwrap_or(NO_TOTALS);
+        let r = r.unwrap_or_default();
         tape.expect(r)?;
         tape.expect(points(&out, r.points))?;
         tape.expect(first(&ends, r.polylines))?;
@@ -330,7 +314,7 @@ impl Asked<'_> {
             marks,
         );
         tape.expect(number_of(&r))?;
-        tape.expect(r.unwrap_or(NO_TOTALS).polylines)?;
+        tape.expect(r.unwrap_or_default().polylines)?;
         expect_front(tape, &out, &ends, marks)
     }
 
@@ -338,7 +322,7 @@ impl Asked<'_> {
     fn ask_counts(self, tape: &mut Tape) -> Option<()> {
         for i in 0..self.verbs.len() {
             let n = flatten::carried_count(self.verbs, self.points, self.tolerance, i);
-            tape.expect(n.unwrap_or(NO_COUNT))?;
+            tape.expect(n.unwrap_or_default())?;
         }
         Some(())
     }
