@@ -73,7 +73,7 @@ fn point_of(x: u32, y: u32) -> Vec2 {
     Vec2::new(f32_from_bits_with_nan(x), f32_from_bits_with_nan(y))
 }
 
-// A call: its kind, by the list's number, then its points and floats. None for a number that is no kind.
+// A call: its kind, which the list has as a number, as all that it has is words, then its points and floats. None for a number that is no kind.
 fn call_of(words: [u32; 7]) -> Option<Call> {
     let [kind, x0, y0, x1, y1, x2, y2] = words;
     let p = point_of(x0, y0);
@@ -368,7 +368,7 @@ fn expect_front(tape: &mut Tape, out: &[f32], ends: &[usize], marks: &[u8]) -> O
     expect_marks(tape, marks)
 }
 
-// An answer of dashing, by the list's number, and what it left in the dash buffers. Only what is cut has a number of curves held back.
+// An answer of dashing, which the list has as a number too, and what it left in the dash buffers. Only what is cut has a number of curves held back.
 fn expect_dashed(
     tape: &mut Tape,
     d: Result<Dashed, Refusal>,
