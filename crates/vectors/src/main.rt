@@ -12,7 +12,7 @@ ghost use Rattle.std.specs.Iterator.{at_most};
 use builder::{Call, PathBuilder, RoundedRect};
 use float::SegmentCount;
 use outline::Dashed;
-use path::{FillRule, Refusal};
+use path::{FillRule, Refusal, number_of};
 use polyline::Flattened;
 use rect::Rect;
 use std::alloc::{AllocError, Global};
@@ -252,14 +252,7 @@ struct Asked<'a> {
     intervals: &'a [f32],
 }
 
-// The number that refuses, 0 for none; for the answer the list has zeros then.
-fn number_of<T>(answer: &Result<T, Refusal>) -> u8 {
-    match answer {
-        Ok(_) => 0,
-        Err(refusal) => (*refusal).into(),
-    }
-}
-
+// Each call that can refuse has its number in the list, and where it refuses, zeros for the answer.
 impl Asked<'_> {
     fn ask_bounds(self, tape: &mut Tape) -> Option<()> {
         let answer = bounds::bounds(self.verbs, self.points);
