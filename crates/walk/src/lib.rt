@@ -40,7 +40,7 @@ pub struct Scratch<'a> {
     pub ghost ordered: { Ordered (length points.now) 0 ends.now } by { Ordered-prop (length points.now) 0 ends.now },
 }
 
-// What is walked: the same, and the lengths of the first legs.
+// What is walked: the same, and the lengths of the first legs. Where each walk begins is handed on beside it: that of one polyline takes it alone.
 #[derive(Clone, Copy)]
 struct Lines<'a> {
     points: &'a [f32],
