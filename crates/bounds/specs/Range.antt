@@ -1,5 +1,6 @@
 -- What is asked of every point: `Path::is_finite` and `Path::is_within_tessellation_range` of path.rs. Definitions only.
-use Rattle.std.specs.Prelude.{Bool, true, ◌&&◌, List, [], ◌∷◌, Float}
+use Rattle.std.specs.Prelude.{Bool, ◌&&◌, List, Float}
+use Rattle.std.specs.List.{list_all}
 use Rattle.std.specs.Float.{binary32}
 use Rattle.std.specs.Float.Ieee.{of_bits, le}
 use Rattle.float.specs.Small.{abs}
@@ -16,6 +17,5 @@ is_small v = le (abs v) max_coordinate
 abbrev pub in_range : Vec2 → Bool
 in_range p = is_small p.x && is_small p.y
 
-unfoldable pub all_pass : (Vec2 → Bool) → List Vec2 → Bool
-all_pass test [] = true
-all_pass test (p ∷ ps) = test p && all_pass test ps
+abbrev pub all_pass : (Vec2 → Bool) → List Vec2 → Bool
+all_pass test ps = list_all test ps

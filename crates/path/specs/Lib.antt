@@ -3,3 +3,4 @@ pub mod Rule
 pub mod Refusal
 pub mod Check
 pub mod Style
+pub mod Points

@@ -10,7 +10,10 @@ ghost use Rattle.path.specs.Style.{style};
 ghost use Rattle.path.specs.Check.{max_verbs, used_by, any_over4, bad_first, check, check_points};
 ghost use Rattle.path.specs.Refusal.{number, number_of};
 
+pub use self::points::Points;
 use vec2::Vec2;
+
+mod points;
 
 // How overlapping subpaths combine when filling.
 #[derive(Clone, Copy, PartialEq, Eq)]
