@@ -1,11 +1,9 @@
 // The box round a path's points, and whether the points are finite and in range: `Path` of the source.
 #![tactic(auto)]
 
-ghost use Rattle.std.specs.Prelude.{◌≡◌, Bool};
-ghost use Rattle.vec2.specs.Points.{points_in};
+ghost use Rattle.std.specs.Prelude.{◌≡◌};
 ghost use Rattle.vec2.specs.Vec2.{all_finite};
-ghost use Rattle.bounds.specs.Bounds.{bounds_of};
-ghost use Rattle.bounds.specs.Range.{is_small, in_range, all_pass};
+ghost use Rattle.bounds.specs.Range.{is_small, in_range};
 ghost use Rattle.bounds.specs.Answer.{bounds, asked};
 
 use path::{Points, Refusal};

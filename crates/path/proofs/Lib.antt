@@ -3,3 +3,4 @@ pub mod Encoded
 pub mod Steps
 pub mod Refusals
 pub mod Styles
+pub mod Pairs

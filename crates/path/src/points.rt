@@ -6,7 +6,7 @@ use vec2::Vec2;
 // The points that have not been given yet. Each is two successive floats; an odd last float is passed over.
 #[derive(Clone, Copy)]
 pub struct Points<'a> {
-    floats: &'a [f32],
+    pairs: &'a [[f32; 2]],
 }
 
 impl<'a> Points<'a> {
@@ -17,7 +17,9 @@ impl<'a> Points<'a> {
     pub fn new(floats: &'a [f32]) -> Points<'a>
         ensures { left result ≡ points_in floats.now }
     {
-        Points { floats }
+        Points {
+            pairs: floats.as_chunks().0,
+        }
     }
 }
 
@@ -32,10 +34,8 @@ impl Iterator for Points<'_> {
     ghost remaining = { item_count left };
 
     fn next(&mut self) -> Option<Vec2> {
-        let [x, y, rest @ ..] = self.floats else {
-            return None;
-        };
-        self.floats = rest;
-        Some(Vec2 { x: *x, y: *y })
+        let (&[x, y], pairs) = self.pairs.split_first()?;
+        self.pairs = pairs;
+        Some(Vec2 { x, y })
     }
 }
