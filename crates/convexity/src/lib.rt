@@ -1,11 +1,11 @@
 // Whether an outline is convex: `polygon_convexity` and `Path::convexity` of the source.
 #![tactic(auto)]
 
-ghost use Rattle.std.specs.Prelude.{◌≡◌, ◌/◌, ◌≤◌, length};
-ghost use Rattle.path.specs.Check.{max_points};
+ghost use Rattle.std.specs.Prelude.{◌≡◌};
 ghost use Rattle.turns.specs.Answer.{polygon_convexity, has_curve, moves, path_reason, convexity};
 
 use path::Refusal;
+use polygon::Polygon;
 use turns::{Convexity, Reason};
 
 // Whether the polygon of a list of points is convex.
@@ -14,7 +14,7 @@ pub fn polygon_convexity(points: &[f32]) -> Result<Convexity, Refusal>
     ensures { result ≡ polygon_convexity points.now }
 {
     path::check_points(points)?;
-    Ok(polygon::polygon_reason(points).into())
+    Ok(Polygon { points }.reason().into())
 }
 
 #[tactic(auto, unfolding(turns::specs::Answer::has_curve))]
@@ -32,16 +32,15 @@ fn count_moves(verbs: &[u8]) -> usize
 }
 
 #[tactic(auto, unfolding(turns::specs::Answer::path_reason))]
-fn path_reason(verbs: &[u8], points: &[f32]) -> Reason
-    requires { length points.now / 2 ≤ max_points }
-    ensures { result ≡ path_reason verbs.now points.now }
+fn path_reason(verbs: &[u8], polygon: Polygon<'_>) -> Reason
+    ensures { result ≡ path_reason verbs.now polygon.entry.points.now }
 {
     if has_curve(verbs) {
         Reason::Curve
     } else if 1 < count_moves(verbs) {
         Reason::SecondMove
     } else {
-        polygon::polygon_reason(points)
+        polygon.reason()
     }
 }
 
@@ -51,5 +50,5 @@ pub fn convexity(verbs: &[u8], points: &[f32]) -> Result<Convexity, Refusal>
     ensures { result ≡ convexity verbs.now points.now }
 {
     path::check(verbs, points)?;
-    Ok(path_reason(verbs, points).into())
+    Ok(path_reason(verbs, Polygon { points }).into())
 }

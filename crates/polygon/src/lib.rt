@@ -7,7 +7,7 @@ ghost use Rattle.path.specs.Check.{max_points};
 ghost use Rattle.turns.specs.Walk.{next, walked, reason_of};
 ghost use Rattle.turns.specs.Plane.{floats as plane};
 
-use turns::{Reason, Side, Tally};
+use turns::{Reason, Tally};
 use vec2::Vec2;
 
 // k % n, without a division.
@@ -18,58 +18,64 @@ fn around(k: usize, n: usize) -> usize
     if k < n { k } else { k - n }
 }
 
-// The first point, round the list, that differs from b. Only repeats of b are passed over, and they belong to b's edge
-// alone, so that all searches of a walk together are linear.
-fn next_other(points: &[f32], b: Vec2, from: usize) -> usize
-    requires { from < length points.now / 2 }
-    ensures { (result ≡ next plane (points_in points.now) b from) × (result < length points.now / 2) }
-{
-    let n = points.len() / 2;
-    let mut k = from;
-    for _passed in 0..n {
-        if !path::point_at(points, k).same(b) {
-            return k;
-        }
-        k = around(k + 1, n);
-    }
-    k
+// A list of points within the limits, so that the sums of a walk round it fit. The field is open: whoever has shown the fact may write the struct.
+#[derive(Clone, Copy)]
+pub struct Polygon<'a> {
+    pub points: &'a [f32],
+    pub ghost few: { length points.now / 2 ≤ max_points },
 }
 
-// Walks the edges that have length, and judges the turn at the end of each. The source also asks whether the next point is b
-// again, which never holds.
-fn walk(points: &[f32]) -> Reason
-    requires { (3 ≤ length points.now / 2) × (length points.now / 2 ≤ max_points) }
-    ensures { result ≡ walked plane (points_in points.now) }
-{
-    let n = points.len() / 2;
-    let mut t = Tally {
-        side: Side::Straight,
-        left: 0,
-        right: 0,
-    };
-    for i in 0..n {
-        let j = around(i + 1, n);
-        let a = path::point_at(points, i);
-        let b = path::point_at(points, j);
-        if !a.same(b) {
-            let k = next_other(points, b, around(i + 2, n));
-            let c = path::point_at(points, k);
-            let turned = turning::turn_at(a, b, c);
-            if turning::opposes(t.side, turned.side) {
-                return Reason::Opposing(j);
+impl Polygon<'_> {
+    // The first point, round the list, that differs from b. Only repeats of b are passed over, and they belong to b's edge
+    // alone, so that all searches of a walk together are linear.
+    // Tried: the points from there on, chained with those before, and `find`, take 18 % more instructions and 8 % more time for a circle.
+    fn next_other(self, b: Vec2, from: usize) -> usize
+        requires { from < length self.points.now / 2 }
+        ensures { (result ≡ next plane (points_in self.entry.points.now) b from) × (result < length self.entry.points.now / 2) }
+    {
+        let n = self.points.len() / 2;
+        let mut k = from;
+        for _passed in 0..n {
+            if path::point_at(self.points, k) != b {
+                return k;
             }
-            t = turning::count(t, turned);
+            k = around(k + 1, n);
         }
+        k
     }
-    turning::end(t)
-}
 
-pub fn polygon_reason(points: &[f32]) -> Reason
-    requires { length points.now / 2 ≤ max_points }
-    ensures { result ≡ reason_of plane (points_in points.now) }
-{
-    if points.len() / 2 < 3 {
-        return Reason::FewPoints;
+    // Walks the edges that have length, and judges the turn at the end of each. The source also asks whether the next point is b
+    // again, which never holds. It goes by index, since each turn reads three of the points, and two of their places go on round the list's end.
+    fn walk(self) -> Reason
+        requires { 3 ≤ length self.points.now / 2 }
+        ensures { result ≡ walked plane (points_in self.entry.points.now) }
+    {
+        let n = self.points.len() / 2;
+        let mut t = Tally::default();
+        for i in 0..n {
+            let j = around(i + 1, n);
+            let a = path::point_at(self.points, i);
+            let b = path::point_at(self.points, j);
+            if a != b {
+                let k = self.next_other(b, around(i + 2, n));
+                let c = path::point_at(self.points, k);
+                let turned = turning::turn_at(a, b, c);
+                if turning::opposes(t.side, turned.side) {
+                    return Reason::Opposing(j);
+                }
+                t = turning::count(t, turned);
+            }
+        }
+        turning::end(t)
     }
-    walk(points)
+
+    // Why the polygon is convex or concave.
+    pub fn reason(self) -> Reason
+        ensures { result ≡ reason_of plane (points_in self.entry.points.now) }
+    {
+        if self.points.len() / 2 < 3 {
+            return Reason::FewPoints;
+        }
+        self.walk()
+    }
 }

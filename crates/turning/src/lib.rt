@@ -2,7 +2,7 @@
 #![tactic(auto)]
 
 ghost use Rattle.std.specs.Prelude.{◌≡◌, ◌≤◌};
-ghost use Rattle.turns.specs.Turn.{opposed, counted, advanced, ended, full_turn};
+ghost use Rattle.turns.specs.Turn.{opposed, counted, ended, full_turn};
 ghost use Rattle.turns.specs.Plane.{side_of, quadrant_of, turn_of};
 
 use turns::{Reason, Side, Tally, Turn};
@@ -17,29 +17,25 @@ fn side_of(cross: f32) -> Side
     ensures { result ≡ side_of cross }
 {
     if float::abs(cross) <= EPSILON {
-        return Side::Straight;
+        Side::Straight
+    } else if cross > 0.0 {
+        Side::Left
+    } else {
+        Side::Right
     }
-    if cross > 0.0 {
-        return Side::Left;
-    }
-    Side::Right
 }
 
-// The quadrant that a direction points into, counted to the left.
+// The quadrant that a direction points into, counted to the left. A number, since quadrants are taken from one another, modulo 4: an enum would be cast back.
 #[tactic(auto, unfolding(turns::specs::Plane::quadrant_of))]
 fn quadrant(v: Vec2) -> u32
     ensures { (result ≡ quadrant_of v) × (result ≤ 3) }
 {
-    if v.x >= 0.0 {
-        if v.y >= 0.0 {
-            return 0;
-        }
-        return 3;
+    match (v.x >= 0.0, v.y >= 0.0) {
+        (true, true) => 0,
+        (false, true) => 1,
+        (false, false) => 2,
+        (true, false) => 3,
     }
-    if v.y >= 0.0 {
-        return 1;
-    }
-    2
 }
 
 // The turn at b on the way from a to c.
@@ -65,25 +61,19 @@ pub fn opposes(past: Side, side: Side) -> bool
     )
 }
 
-fn advance(t: Tally, side: Side, quadrants: u32) -> Tally
-    requires { (t.left ≤ 1000000) × (t.right ≤ 1000000) × (quadrants ≤ 3) }
-    ensures { result ≡ advanced t side quadrants }
-{
-    Tally {
-        side,
-        left: t.left + quadrants,
-        right: t.right + (4 - quadrants) % 4,
-    }
-}
-
 // One turn more. Where it is too small to count for the side, its quadrants still count.
 pub fn count(t: Tally, turned: Turn) -> Tally
     requires { (t.left ≤ 1000000) × (t.right ≤ 1000000) × (turned.advance ≤ 3) }
     ensures { result ≡ counted t turned }
 {
-    match turned.side {
-        Side::Straight => advance(t, t.side, turned.advance),
-        side => advance(t, side, turned.advance),
+    let side = match turned.side {
+        Side::Straight => t.side,
+        side => side,
+    };
+    Tally {
+        side,
+        left: t.left + turned.advance,
+        right: t.right + (4 - turned.advance) % 4,
     }
 }
 

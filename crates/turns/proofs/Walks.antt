@@ -1,5 +1,5 @@
 -- The laws of the search and of the walk that the loops follow, over any points. Assumes nothing.
-use mathlib.Core.Path.{◌≡◌, refl, sym, ap, ◌∙◌}
+use mathlib.Core.Path.{◌≡◌, refl, sym, ap, ap₂, ◌∙◌}
 use mathlib.Core.Bool.{Bool, true, false}
 use mathlib.Core.List.{List, [], ◌∷◌}
 use Prim.Native.Nat.{ℕ, zero, suc, ◌+◌, ◌-◌, ◌/◌, ◌%◌, ◌≤◌, ◌<◌}
@@ -16,7 +16,7 @@ use Rattle.turns.specs.declared.Reason.{Reason}
 use Rattle.turns.specs.declared.Reason.TheVariants.{Opposing}
 use Rattle.turns.specs.declared.Side.{Side}
 use Rattle.turns.specs.declared.Side.TheVariants.{Straight, Left, Right}
-use Rattle.turns.specs.Turn.{opposed, counted_as, counted, ended}
+use Rattle.turns.specs.Turn.{start, opposed, counted_as, counted, ended}
 use Rattle.turns.specs.Walk.{Plane, Junction, at, seek, next, junction_at, unless_same, junctions_from, judge}
 use Rattle.turns.specs.Plane.{floats}
 use Rattle.turns.proofs.Never.{next_differs}
@@ -24,6 +24,13 @@ use Rattle.turns.proofs.Never.{next_differs}
 -- a point that is read from the buffer is that point of the list
 pub read : (fs : List Float) (k : ℕ) (p : Vec2) → k < length fs / 2 → p ≡ point_at fs k → p ≡ at floats (points_in fs) k
 read fs k p h e = e ∙ sym (points_in-at fs k (omega arith))
+
+abbrev tally : Side → ℕ → ℕ → Tally
+tally s l r = record { side = s; left = l; right = r }
+
+-- the tally of no turn, by its fields
+pub is_start : (t : Tally) → t.side ≡ Straight → t.left ≡ 0 → t.right ≡ 0 → t ≡ start
+is_start t s l r = ap (λ (x : Side). tally x t.left t.right) s ∙ ap₂ (tally Straight) l r
 
 -- whatever its side, a turn adds at most three quadrants to either sum
 counted_as_lem : (t : Tally) (side : Side) (q : ℕ) → q ≤ 3 → ((counted_as side t q).left ≤ t.left + 3) × ((counted_as side t q).right ≤ t.right + 3)

@@ -44,8 +44,9 @@ impl From<Reason> for Convexity {
 // ---- turns
 
 // The side that a turn goes to. Straight: the turn is too small to count for the side.
-#[derive(Clone, Copy, PartialEq, Eq)]
+#[derive(Clone, Copy, PartialEq, Eq, Default)]
 pub enum Side {
+    #[default]
     Straight,
     Left,
     Right,
@@ -59,7 +60,7 @@ pub struct Turn {
 }
 
 // The turns so far: their side, and the quadrants in all, read as turns to the left and to the right.
-#[derive(Clone, Copy, PartialEq, Eq)]
+#[derive(Clone, Copy, PartialEq, Eq, Default)]
 pub struct Tally {
     pub side: Side,
     pub left: u32,

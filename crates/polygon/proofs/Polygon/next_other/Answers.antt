@@ -3,6 +3,7 @@ use mathlib.Core.Path.{◌≡◌, refl, sym, ap, ◌∙◌}
 use mathlib.Core.Bool.{true, false}
 use Prim.Native.Nat.{◌+◌, ◌-◌, ◌/◌}
 use native.Mathlib.Omega.{arith}
+use borrow.Author.Tests.{not-true, not-false}
 use native.Mathlib.Nat.{sub-zero}
 use lib.ListN.{length}
 use Rattle.vec2.specs.declared.Vec2.{Vec2}
@@ -12,30 +13,32 @@ use Rattle.vec2.proofs.Points.{length-points_in}
 use Rattle.turns.specs.Plane.{floats as plane}
 use Rattle.turns.specs.Walk.{at, next}
 use Rattle.turns.proofs.Walks.{read, seek_stop, seek_pass, seek_end}
-use Rattle.polygon.proofs.next_other.Goals as goal
+use Rattle.polygon.proofs.Polygon.next_other.Goals as goal
 
 pub loop-passed-init : goal.loop-passed-init
 unfolding next
 loop-passed-init c = (c.requires, refl, rw (length-points_in, sub-zero))
 
-pub returns-then-not-same : goal.returns-then-not-same
-returns-then-not-same c =
+pub returns-then-ne : goal.returns-then-ne
+unfolding same_as
+returns-then-ne c =
     let l = c.loop-passed in
     let a = c.args in
-    let fs = a.points.now in
+    let fs = a.self.points.now in
     let found = read fs l.k _ l.invariant.0 c.point_at.ensures in
     let other : same_as (at plane (points_in fs) l.k) a.b ≡ false =
-    ap (λ (p : Vec2). same_as p a.b) (sym found) ∙ sym c.same.ensures ∙ c.if-not-same.true in
+    ap (λ (p : Vec2). same_as p a.b) (sym found) ∙ not-true _ (sym c.if-ne.ensures) in
     (seek_stop plane (points_in fs) _ (length-points_in fs) a.b (length fs / 2 - l._passed) l.k _ other ∙ l.invariant.2, l.invariant.0)
 
 pub loop-passed-preserved : goal.loop-passed-preserved
+unfolding same_as
 loop-passed-preserved c =
     let l = c.loop-passed in
     let a = c.args in
-    let fs = a.points.now in
+    let fs = a.self.points.now in
     let found = read fs l.k _ l.invariant.0 c.point_at.ensures in
     let passed : same_as (at plane (points_in fs) l.k) a.b ≡ true =
-    ap (λ (p : Vec2). same_as p a.b) (sym found) ∙ sym c.same.ensures ∙ c.if-not-same.false in
+    ap (λ (p : Vec2). same_as p a.b) (sym found) ∙ not-false _ (sym c.if-ne.ensures) in
     let less : length fs / 2 - (l._passed + 1) ≡ length fs / 2 - l._passed - 1 = omega arith in (
       c.around-k.ensures.1,
       refl,
@@ -47,5 +50,5 @@ pub returns : goal.returns
 returns c =
     let l = c.loop-passed in
     let a = c.args in
-    let fs = a.points.now in
+    let fs = a.self.points.now in
     (seek_end plane (points_in fs) _ (length-points_in fs) a.b (length fs / 2 - l._passed) l.k _ (omega arith) ∙ l.invariant.2, l.invariant.0)
