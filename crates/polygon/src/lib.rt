@@ -70,6 +70,7 @@ impl Polygon<'_> {
     }
 
     // Why the polygon is convex or concave.
+    #[tactic(auto, unfolding(turns::specs::Walk::reason_of))]
     pub fn reason(self) -> Reason
         ensures { result ≡ reason_of plane (points_in self.entry.points.now) }
     {

@@ -19,9 +19,6 @@ loop-i-init c =
     let d = c.default-t.ensures in
     rw (is_start c.default-t.result d.0 d.1.0 d.1.1) (omega arith, omega arith, rw (length-points_in, sub-zero))
 
-pub next_other-k-requires : goal.next_other-k-requires
-next_other-k-requires c = c.around.ensures.1
-
 pub returns-then-opposes : goal.returns-then-opposes
 unfolding same_as
 returns-then-opposes c =
