@@ -6,9 +6,9 @@ use Rattle.rect.specs.declared.Rect.{Rect}
 use Rattle.rect.specs.Rect.{empty_rect, widened}
 
 -- one point after the other
-abbrev pub widened_by : Rect → List Vec2 → Rect
+unfoldable pub widened_by : Rect → List Vec2 → Rect
 widened_by r ps = fold widened r ps
 
 -- from (+∞, −∞)
-abbrev pub bounds_of : List Vec2 → Rect
+unfoldable pub bounds_of : List Vec2 → Rect
 bounds_of ps = widened_by empty_rect ps

@@ -17,5 +17,5 @@ is_small v = le (abs v) max_coordinate
 abbrev pub in_range : Vec2 → Bool
 in_range p = is_small p.x && is_small p.y
 
-abbrev pub all_pass : (Vec2 → Bool) → List Vec2 → Bool
+unfoldable pub all_pass : (Vec2 → Bool) → List Vec2 → Bool
 all_pass test ps = list_all test ps

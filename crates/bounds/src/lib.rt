@@ -26,6 +26,7 @@ fn is_in_range(p: Vec2) -> bool
 }
 
 // The box round a path's points, control points included.
+#[tactic(auto, unfolding(crate::specs::Bounds::bounds_of, crate::specs::Bounds::widened_by))]
 pub fn bounds(verbs: &[u8], points: &[f32]) -> Result<Rect, Refusal>
     ensures { result ≡ bounds verbs.now points.now }
 {
