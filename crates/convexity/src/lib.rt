@@ -21,14 +21,14 @@ pub fn polygon_convexity(points: &[f32]) -> Result<Convexity, Refusal>
 fn has_curve(verbs: &[u8]) -> bool
     ensures { result ≡ has_curve verbs.now }
 {
-    verbs.iter().any(|v| *v == 2 || *v == 3)
+    verbs.iter().any(|v| *v == path::QUAD || *v == path::CUBIC)
 }
 
 #[tactic(auto, unfolding(turns::specs::Answer::moves))]
 fn count_moves(verbs: &[u8]) -> usize
     ensures { result ≡ moves verbs.now }
 {
-    verbs.iter().filter(|v| **v == 0).count()
+    verbs.iter().filter(|v| **v == path::MOVE).count()
 }
 
 #[tactic(auto, unfolding(turns::specs::Answer::path_reason))]

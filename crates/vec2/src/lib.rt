@@ -4,10 +4,11 @@
 ghost use Rattle.std.specs.Prelude.{◌≡◌, ◌∷◌, [], ◌+◌, ◌*◌, ◌≤◌, length};
 ghost use Rattle.std.proofs.lemmas.List.Edits.{sets};
 ghost use Rattle.vec2.specs.Points.{flat};
-ghost use Rattle.vec2.specs.Vec2.{vec, origin, ◌⊕◌, ◌⊖◌, ◌⊙◌, ◌⊘◌, len, perp_dot, minimum, maximum, abs_of, max_element, any_nan, all_finite, same_as};
+ghost use Rattle.vec2.specs.Vec2.{vec, origin, ◌⊕◌, ◌⊖◌, ◌⊙◌, ◌⊘◌, len, perp_dot, minimum, maximum, abs_of, max_element, any_nan, all_finite};
 
 use std::ops::{Add, Div, Mul, Sub};
 
+// Two are equal as numbers: −0 equals 0, and a NaN equals nothing.
 #[repr(C)]
 #[derive(Clone, Copy, PartialEq)]
 pub struct Vec2 {
@@ -143,14 +144,6 @@ impl Vec2 {
         ensures { result ≡ all_finite self }
     {
         float::is_finite(self.x) && float::is_finite(self.y)
-    }
-
-    // Equal as numbers: −0 equals 0, and a NaN equals nothing.
-    #[tactic(auto, unfolding(crate::specs::Vec2::same_as))]
-    pub fn same(self, b: Vec2) -> bool
-        ensures { result ≡ same_as self b }
-    {
-        self == b
     }
 }
 
