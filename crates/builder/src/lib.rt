@@ -1,13 +1,13 @@
 // The path builder: a state by value, verbs and points in two lent buffers.
 #![tactic(auto)]
 
-ghost use Rattle.std.specs.Prelude.{◌≡◌, [], ◌∷◌, ◌++◌, true};
+ghost use Rattle.std.specs.Prelude.{◌≡◌, [], ◌∷◌, ◌++◌, true, cond, Some, None};
 ghost use Rattle.path.specs.Segment.{is_drawn, end_of};
 ghost use Rattle.drawing.specs.Lay.{opening};
 ghost use Rattle.builder.specs.declared.Call.TheVariants.{MoveTo, LineTo, QuadTo, ConicTo, CubicTo, Close, WithFillRule, AsRoundedRect};
 ghost use Rattle.builder.specs.Call.{from};
-ghost use Rattle.builder.specs.Build.{fresh, start_of, pen_of, standing, noted_as, finite_box, set_by, current_of, note_of, outcome, pushed, called};
-ghost use Rattle.builder.specs.Replied.{moved_to, replied_by};
+ghost use Rattle.builder.specs.Build.{fresh, start_of, pen_of, standing, finite_box, set_by, current_of, note_of, outcome, pushed, settled, called};
+ghost use Rattle.builder.specs.Replied.{moved_to, noted_by, replied_by};
 
 use bending::lay_conic;
 use conic::Conic;
@@ -43,6 +43,18 @@ pub struct PathBuilder {
 pub struct Reply {
     pub state: PathBuilder,
     pub quads: Result<usize, Refusal>,
+}
+
+// The answer of a call that refused nothing and laid no quads of a conic.
+impl From<PathBuilder> for Reply {
+    ghost from_gives = { λ state r. r ≡ settled state };
+
+    fn from(state: PathBuilder) -> Reply {
+        Reply {
+            state,
+            quads: Ok(0),
+        }
+    }
 }
 
 #[derive(Clone, Copy)]
@@ -133,14 +145,19 @@ impl PathBuilder {
         }
     }
 
-    fn with_note(self, noted: bool, min: Vec2, max: Vec2, radius: f32) -> PathBuilder
-        ensures { result ≡ noted_as self noted min max radius }
+    fn with_note(self, note: Option<RoundedRect>) -> PathBuilder
+        ensures { result ≡ noted_by self note }
     {
+        let noted = note.is_some();
+        let RoundedRect { rect, radius } = note.unwrap_or(RoundedRect {
+            rect: Rect::new(Vec2::zero(), Vec2::zero()),
+            radius: 0.0,
+        });
         PathBuilder {
-            min_x: min.x,
-            min_y: min.y,
-            max_x: max.x,
-            max_y: max.y,
+            min_x: rect.min.x,
+            min_y: rect.min.y,
+            max_x: rect.max.x,
+            max_y: rect.max.y,
             radius,
             noted,
             ..self
@@ -152,10 +169,9 @@ impl PathBuilder {
     pub fn as_rounded_rect(self, rect: Rect, radius: f32) -> PathBuilder
         ensures { result ≡ set_by self (AsRoundedRect rect radius) }
     {
-        if is_finite_box(rect.min, rect.max, radius) {
-            return self.with_note(true, rect.min, rect.max, float::max(radius, 0.0));
-        }
-        self.with_note(false, Vec2::zero(), Vec2::zero(), 0.0)
+        let is_finite = is_finite_box(rect.min, rect.max, radius);
+        let radius = float::max(radius, 0.0);
+        self.with_note(is_finite.then_some(RoundedRect { rect, radius }))
     }
 
     // ---- where it stands, and where a drawn verb begins
@@ -177,15 +193,18 @@ impl PathBuilder {
         self.current_point().unwrap_or(Vec2::zero())
     }
 
+    fn latest_move(self) -> Option<Vec2>
+        ensures { result ≡ cond self.started (Some (start_of self)) None }
+    {
+        self.started
+            .then_some(Vec2::new(self.start_x, self.start_y))
+    }
+
     // The latest move's point behind a drawn verb.
     fn start(self) -> Vec2
         ensures { result ≡ from self.started (start_of self) }
     {
-        if self.started {
-            Vec2::new(self.start_x, self.start_y)
-        } else {
-            Vec2::zero()
-        }
+        self.latest_move().unwrap_or(Vec2::zero())
     }
 
     // ---- the state behind what was laid, and the answer
@@ -217,7 +236,7 @@ impl PathBuilder {
         ensures { result ≡ replied_by laid self start pen }
     {
         match laid {
-            Ok(at) => self.moved(at, start, pen).answer(Ok(0)),
+            Ok(at) => self.moved(at, start, pen).into(),
             Err(refusal) => self.answer(Err(refusal)),
         }
     }
@@ -274,14 +293,13 @@ impl PathBuilder {
         ensures { outcome result verbs.new points.new ≡ called self verbs.old points.old Close }
     {
         let at = self.standing();
-        if self.started {
-            let laid = at.lay(Segment::Close, verbs, points);
-            let start = Vec2::new(self.start_x, self.start_y);
-            return self.settle(laid, start, start);
-        }
-        // nothing is laid, and the buffers are looked at all the same
-        let room = at.check_room(verbs.len(), points.len(), 0, 0);
-        self.answer(room.and(Ok(0)))
+        let Some(start) = self.latest_move() else {
+            // nothing is laid, and the buffers are looked at all the same
+            let room = at.check_room(verbs.len(), points.len(), 0, 0);
+            return self.answer(room.and(Ok(0)));
+        };
+        let laid = at.lay(Segment::Close, verbs, points);
+        self.settle(laid, start, start)
     }
 
     pub fn conic_to(

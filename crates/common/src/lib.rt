@@ -5,22 +5,12 @@ ghost use Rattle.std.specs.Prelude.{◌≡◌, pos};
 ghost use Rattle.std.specs.List.{find, range_with_len};
 ghost use Rattle.std.specs.Float.{binary32};
 ghost use Rattle.std.specs.Float.Ieee.{eq, of_int};
-ghost use Rattle.builder.specs.Build.{outcome, called, settled};
+ghost use Rattle.builder.specs.Build.{outcome, called};
 
 use builder::{Call, PathBuilder, Reply};
 use path::Refusal;
 use std::fmt;
 use turns::Convexity;
-
-// The answer of a call that takes no buffer, and refuses nothing.
-fn settled(state: PathBuilder) -> Reply
-    ensures { result ≡ settled state }
-{
-    Reply {
-        state,
-        quads: Ok(0),
-    }
-}
 
 // Plays one call.
 #[tactic(auto, unfolding(builder::specs::Build::called))]
@@ -34,8 +24,8 @@ pub fn play(b: PathBuilder, call: Call, verbs: &mut [u8], points: &mut [f32]) ->
         Call::ConicTo(ctrl, to, weight) => b.conic_to(verbs, points, ctrl, to, weight),
         Call::CubicTo(c0, c1, to) => b.cubic_to(verbs, points, c0, c1, to),
         Call::Close => b.close(verbs, points),
-        Call::WithFillRule(rule) => settled(b.with_fill_rule(rule)),
-        Call::AsRoundedRect(rect, radius) => settled(b.as_rounded_rect(rect, radius)),
+        Call::WithFillRule(rule) => b.with_fill_rule(rule).into(),
+        Call::AsRoundedRect(rect, radius) => b.as_rounded_rect(rect, radius).into(),
     }
 }
 

@@ -14,7 +14,7 @@ use vec2::Vec2;
 pub fn lead_of(started: bool) -> usize
     ensures { result ≡ lead started }
 {
-    if started { 0 } else { 1 }
+    usize::from(!started)
 }
 
 // Lays the move to (0, 0) where nothing stands, and says where the drawn verb goes.
