@@ -1,44 +1,32 @@
--- The calls that are left behind so many kinds and numbers: none, or one and those behind it. Assumes nothing.
-use mathlib.Core.Path.{◌≡◌}
-use mathlib.Core.Bool.{true, false}
-use mathlib.Core.List.{List, [], ◌∷◌}
-use Prim.Native.Nat.{ℕ, ◌+◌, ◌-◌, ◌≤◌, ◌<◌}
-use native.Mathlib.Numerals.{add-one}
+-- The calls that a list says: none, or one and those behind it. Assumes nothing.
+use mathlib.Core.Path.{◌≡◌, refl}
 use native.Mathlib.Omega.{arith}
+use mathlib.Core.List.{List, [], ◌∷◌}
+use Prim.Native.Nat.{ℕ, ◌≤◌, ◌<◌}
 use borrow.Author.Tests.{lt-ltb, le-ltb}
-use lib.ListN.{length, get_or, drop, length-drop, drop_of_length-le}
-use lib.Seq.{drop-cons, drop-drop}
+use lib.ListN.{length, get_or, take, drop}
 use lib.Ieee.{Float}
-use Rattle.replay.specs.Calls.{taken, call_of, ends, calls}
-use Rattle.replay.specs.Run.{calls_left}
+use Rattle.replay.specs.Calls.{taken, call_of, calls}
+use Rattle.replay.proofs.Tables.{its_own}
 
-module _ (ks : List ℕ) (fs : List Float) (i at : ℕ) where
-  abbrev kind : ℕ
-  kind = get_or ks i 0
+pub no_kinds : (ks : List ℕ) (fs : List Float) → length ks ≡ 0 → calls ks fs ≡ []
+unfolding calls
+no_kinds [] fs h = refl
+no_kinds (k ∷ ks) fs h = absurd (omega (arith, h))
 
-  pub no_kind : length ks ≤ i → calls_left ks fs i at ≡ []
+pub bad_kind : (ks : List ℕ) (fs : List Float) → 8 < get_or ks 0 0 → calls ks fs ≡ []
+unfolding calls
+bad_kind [] fs h = refl
+bad_kind (k ∷ ks) fs h = rw (lt-ltb 8 k h)
+
+-- a call of a kind k, which takes n numbers, stands first
+module _ {k n : ℕ} (good : k ≤ 8) (t : taken k ≡ n) {j : ℕ} {all ks : List ℕ} (e : all ≡ j ∷ ks) (d : j ≡ k) (fs : List Float) where
+  pub few_numbers : length fs < n → calls all fs ≡ []
   unfolding calls
-  no_kind h = rw (drop_of_length-le ks h)
+  few_numbers h = rw (e, d, le-ltb 8 k good, t, lt-ltb (length fs) n h)
 
-  module _ (h : i < length ks) where
-    ended : ends kind (drop at fs) ≡ true → calls_left ks fs i at ≡ []
-    unfolding calls
-    ended e = rw (drop-cons ks i 0 h, e)
-
-    going : ends kind (drop at fs) ≡ false → calls_left ks fs i at ≡ call_of kind (drop at fs) ∷ calls_left ks fs (i + 1) (at + taken kind)
-    unfolding calls
-    going e = rw (drop-cons ks i 0 h, e, drop-drop, add-one)
-
-    pub bad_kind : 8 < kind → calls_left ks fs i at ≡ []
-    bad_kind g = ended (rw (lt-ltb 8 kind g))
-
-    module _ (good : kind ≤ 8) (n : ℕ) (e : n ≡ taken kind) where
-      pub few_numbers : length fs - at < n → calls_left ks fs i at ≡ []
-      few_numbers g =
-          let f : length (drop at fs) < taken kind = omega (arith, g, e, length-drop at fs) in
-          ended (rw (le-ltb 8 kind good, lt-ltb (length (drop at fs)) (taken kind) f))
-
-      pub one_more : n ≤ length fs - at → calls_left ks fs i at ≡ call_of kind (drop at fs) ∷ calls_left ks fs (i + 1) (at + n)
-      one_more g =
-          let f : taken kind ≤ length (drop at fs) = omega (arith, g, e, length-drop at fs) in
-          rw (e) (going (rw (le-ltb 8 kind good, le-ltb (length (drop at fs)) (taken kind) f)))
+  pub one_more : n ≤ length fs → calls all fs ≡ call_of k (take n fs) ∷ calls ks (drop n fs)
+  unfolding calls
+  one_more h =
+      let its : call_of k (take n fs) ≡ call_of k fs = rw (← t) (its_own k good fs) in
+      rw (e, d, le-ltb 8 k good, t, le-ltb (length fs) n h, its)

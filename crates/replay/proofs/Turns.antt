@@ -1,10 +1,9 @@
 -- The playing of the list: what the calls that are left make of the present state and buffers, with what was counted, is what the whole list makes of a
 -- fresh builder. Assumes nothing.
-use mathlib.Core.Path.{◌≡◌, refl, sym, ap, ap₂, ◌∙◌}
+use mathlib.Core.Path.{◌≡◌, refl, ap, ◌∙◌}
 use mathlib.Core.Bool.{Bool, true, false, cond}
-use mathlib.Core.List.{List, [], ◌∷◌}
-use Prim.Native.Nat.{ℕ, suc, ◌+◌, ◌*◌}
-use native.Mathlib.Nat.{add-zero, zero-add}
+use mathlib.Core.List.{List, ◌∷◌}
+use Prim.Native.Nat.{ℕ, ◌+◌, ◌*◌}
 use native.Mathlib.Omega.{arith}
 use lib.ListN.{length}
 use lib.Seq.{sets, length-sets}
@@ -19,48 +18,19 @@ use Rattle.builder.specs.Build.{Built, fresh_over, run, answers, refusals, pushe
 use Rattle.vec2.specs.Points.{flat}
 use Rattle.path.specs.declared.Segment.{Segment}
 use Rattle.path.specs.Segment.{bytes_of, all_points}
-use Rattle.replay.specs.Calls.{calls}
 use Rattle.std.specs.Prelude.{Result, Ok, Err, is_err}
-use Rattle.replay.specs.Replay.{Outcome, one_if, refused_of, played_to, replayed}
-use Rattle.replay.specs.Run.{standing, played}
+use Rattle.replay.specs.Replay.{one_if, refused_of}
+use Rattle.replay.specs.Run.{standing, refused_with}
 
-pub played_whole : (ks : List ℕ) (ns : List Float) (bs : List ℕ) (fs : List Float) → played (fresh_over bs fs) (calls ks ns) 0 0 ≡ replayed ks ns bs fs
-unfolding played replayed
-played_whole ks ns bs fs = rw (zero-add, zero-add)
+-- a call that was played first, as the builder's own promise tells it
+module _ (b : PathBuilder) (vs : List ℕ) (fs : List Float) (c : Call) (cs : List Call) (r : Reply) (vs' : List ℕ) (fs' : List Float) (e : build.outcome r vs' fs' ≡ called b vs fs c) where
+  pub run_more : run (standing r.state vs' fs') cs ≡ run (standing b vs fs) (c ∷ cs)
+  unfolding run
+  run_more = ap (λ (o : build.Outcome). run (build.left_by o) cs) e
 
-pub played_none : (b : Built) (cs : List Call) (n k : ℕ) → cs ≡ [] → played_to b n k ≡ played b cs n k
-unfolding played run answers refused_of
-played_none b cs n k e = rw (e, add-zero, add-zero)
-
--- one call more, which answers o
-played_more : (b : Built) (c : Call) (cs : List Call) (n k : ℕ) → played (build.left_by (call b c)) cs (n + 1) (k + one_if (is_err (call b c).reply.quads)) ≡ played b (c ∷ cs) n k
-unfolding played run answers refused_of
-played_more b c cs n k =
-    let o = call b c in
-    ap₂ (λ (x y : ℕ). played_to (run (build.left_by o) cs) x y) (one_more n (length cs)) (assoc k (one_if (is_err o.reply.quads)) (refused_of (refusals (build.left_by o) cs)))
-  where
-    one_more : (x y : ℕ) → x + 1 + y ≡ x + suc y
-    one_more x y = omega arith
-
-    assoc : (x y z : ℕ) → x + y + z ≡ x + (y + z)
-    assoc x y z = omega arith
-
--- the same, as the builder's own promise tells it
-pub played_one : (b : PathBuilder) (vs : List ℕ) (fs : List Float) (c : Call) (cs : List Call) (n k : ℕ) (r : Reply) (vs' : List ℕ) (fs' : List Float) →
-    build.outcome r vs' fs' ≡ called b vs fs c → played (standing r.state vs' fs') cs (n + 1) (k + one_if (is_err r.quads)) ≡ played (standing b vs fs) (c ∷ cs) n k
-played_one b vs fs c cs n k r vs' fs' e =
-    ap (λ (o : build.Outcome). played (build.left_by o) cs (n + 1) (k + one_if (is_err o.reply.quads))) e
-    ∙ played_more (standing b vs fs) c cs n k
-
--- a turn of the loop: of the calls cs that are left, it plays the first
-pub turn : (b : PathBuilder) (vs vs' : List ℕ) (fs fs' : List Float) (c d : Call) (cs ds : List Call) (r : Reply) (n k : ℕ) (all : Outcome) →
-    build.outcome r vs' fs' ≡ called b vs fs c → c ≡ d → cs ≡ d ∷ ds →
-    played (standing b vs fs) cs n k ≡ all → played (standing r.state vs' fs') ds (n + 1) (k + one_if (is_err r.quads)) ≡ all
-turn b vs vs' fs fs' c d cs ds r n k all e i l h =
-    played_one b vs fs c ds n k r vs' fs' e
-    ∙ ap (λ (x : Call). played (standing b vs fs) (x ∷ ds) n k) i
-    ∙ ap (λ (x : List Call). played (standing b vs fs) x n k) (sym l)
-    ∙ h
+  pub refused_more : (k : ℕ) → refused_with (k + one_if (is_err r.quads)) (standing r.state vs' fs') cs ≡ refused_with k (standing b vs fs) (c ∷ cs)
+  unfolding answers refused_of
+  refused_more k = omega (arith, ap (λ (o : build.Outcome). one_if (is_err o.reply.quads) + refused_of (refusals (build.left_by o) cs)) e)
 
 -- ---- a call keeps the buffers' lengths
 

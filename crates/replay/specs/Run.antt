@@ -1,59 +1,59 @@
--- The playing of an encoded list in runs: where it stands, and what a run of calls does. Definitions only.
-use Rattle.std.specs.Prelude.{◌≡◌, ◌⊎◌, Bool, true, false, List, [], ℕ, ◌+◌, ◌-◌, ◌≤◌, ◌<◌, length, get_or, drop, Float, is_err}
+-- The playing of an encoded list in runs: what is left of it, and what a run of calls does. Definitions only.
+use Rattle.std.specs.Prelude.{◌≡◌, ◌∷◌, [], List, ℕ, ◌+◌, ◌≤◌, length, get_or, is_err, Float}
 use Rattle.builder.specs.declared.PathBuilder.{PathBuilder}
 use Rattle.builder.specs.declared.Reply.{Reply}
 use Rattle.builder.specs.declared.Call.{Call}
-use Rattle.builder.specs.Build.{Built, run, refusals}
-use Rattle.replay.specs.Calls.{calls}
-use Rattle.replay.specs.Replay.{Outcome, one_if, refused_of, played_to}
+use Rattle.builder.specs.Build.{Built, fresh, run, refusals}
+use Rattle.replay.specs.Calls.{call_of, calls}
+use Rattle.replay.specs.Replay.{one_if, refused_of}
+use Rattle.replay.specs.declared.CallList.{CallList}
 use Rattle.replay.specs.declared.Run.{Run}
+
+-- the calls that a list says
+abbrev pub calls_of : CallList → List Call
+calls_of l = calls l.kinds.now l.numbers.now
+
+-- the kind of the first, or 0 where there is none
+abbrev pub next_kind : CallList → ℕ
+next_kind l = get_or l.kinds.now 0 0
+
+-- a call of kind k stands first, whose numbers are ns, and the list m behind it
+pub record First (k : ℕ) (l : CallList) (ns : List Float) (m : CallList) : Type 0 where
+  pub kinds : length m.kinds.now + 1 ≡ length l.kinds.now
+  pub calls : calls_of l ≡ call_of k ns ∷ calls_of m
+
+-- nothing of the list was played, and the builder is fresh
+pub record Begun (ks : List ℕ) (ns : List Float) (r : Run) : Type 0 where
+  pub kinds : r.left.kinds.now ≡ ks
+  pub numbers : r.left.numbers.now ≡ ns
+  pub refused : r.refused ≡ 0
+  pub state : r.state ≡ fresh
+
+-- where the playing stands behind a call that got the reply o, with the list m behind it
+pub record Behind (r : Run) (o : Reply) (m : CallList) (q : Run) : Type 0 where
+  pub kinds : q.left.kinds.now ≡ m.kinds.now
+  pub numbers : q.left.numbers.now ≡ m.numbers.now
+  pub refused : q.refused ≡ r.refused + one_if (is_err o.quads)
+  pub state : q.state ≡ o.state
 
 abbrev pub standing : PathBuilder → List ℕ → List Float → Built
 standing b vs fs = record { state = b; bytes = vs; floats = fs }
 
--- the calls that are left behind i kinds and `at` numbers
-abbrev pub calls_left : List ℕ → List Float → ℕ → ℕ → List Call
-calls_left ks ns i at = calls (drop i ks) (drop at ns)
-
--- the calls cs played from b, n calls and k refusals standing before
-unfoldable pub played : Built → List Call → ℕ → ℕ → Outcome
-played b cs n k = played_to (run b cs) (n + length cs) (k + refused_of (refusals b cs))
-
--- what the calls that are left behind r make of its state and of the buffers
-abbrev pub rest : List ℕ → List Float → Run → List ℕ → List Float → Outcome
-rest ks ns r vs fs = played (standing r.state vs fs) (calls_left ks ns r.calls r.at) r.calls r.refused
-
--- where the playing stands behind a call that took n numbers and got the reply o
-abbrev pub behind : Run → Reply → ℕ → Run
-behind r o n = record { calls = r.calls + 1; at = r.at + n; refused = r.refused + one_if (is_err o.quads); state = o.state }
-
--- no slice is longer: 2^63 − 1
-abbrev pub max_length : ℕ
-max_length = 9223372036854775807
-
--- a byte k is the next kind
-pub record Next (k : ℕ) (ks : List ℕ) (ns : List Float) (r : Run) : Type 0 where
-  pub calls : r.calls < length ks
-  pub at : r.at ≤ length ns
-  pub refused : r.refused ≤ r.calls
-  pub kind : get_or ks r.calls 0 ≡ k
-
--- t tells whether the next call is of kind k, with n numbers; where not, the list is over, the next kind is another, or there are too few numbers
-pub record Follows (k n : ℕ) (ks : List ℕ) (i : ℕ) (ns : List Float) (at : ℕ) (t : Bool) : Type 0 where
-  pub on : t ≡ true → (i < length ks) × (get_or ks i 0 ≡ k) × (n ≤ length ns - at)
-  pub otherwise : t ≡ false → (length ks ≤ i) ⊎ ((get_or ks i 0 ≡ k → ⊥) ⊎ ((i < length ks) × (get_or ks i 0 ≡ k) × (length ns - at < n)))
+-- how many of the calls cs are refused, where n were before
+abbrev pub refused_with : ℕ → Built → List Call → ℕ
+refused_with n b cs = n + refused_of (refusals b cs)
 
 -- From r and these buffers some calls were played, which led to q and those: what is left then makes the same of them.
-pub record Along (ks : List ℕ) (ns : List Float) (r : Run) (vs : List ℕ) (fs : List Float) (q : Run) (vs' : List ℕ) (fs' : List Float) : Type 0 where
-  pub calls : q.calls ≤ length ks
-  pub on : r.calls ≤ q.calls
-  pub at : q.at ≤ length ns
-  pub refused : q.refused ≤ q.calls
+pub record Along (r : Run) (vs : List ℕ) (fs : List Float) (q : Run) (vs' : List ℕ) (fs' : List Float) : Type 0 where
+  pub kinds : length q.left.kinds.now ≤ length r.left.kinds.now
+  pub same : length q.left.kinds.now ≡ length r.left.kinds.now → next_kind q.left ≡ next_kind r.left
   pub bytes : length vs' ≡ length vs
   pub floats : length fs' ≡ length fs
-  pub made : rest ks ns q vs' fs' ≡ rest ks ns r vs fs
+  pub calls : length q.left.kinds.now + length (calls_of r.left) ≡ length r.left.kinds.now + length (calls_of q.left)
+  pub refused : refused_with q.refused (standing q.state vs' fs') (calls_of q.left) ≡ refused_with r.refused (standing r.state vs fs) (calls_of r.left)
+  pub made : run (standing q.state vs' fs') (calls_of q.left) ≡ run (standing r.state vs fs) (calls_of r.left)
 
 -- the same of a whole run: where it played nothing, the list ends
-pub record Ran (ks : List ℕ) (ns : List Float) (r : Run) (vs : List ℕ) (fs : List Float) (q : Run) (vs' : List ℕ) (fs' : List Float) : Type 0 where
-  pub along : Along ks ns r vs fs q vs' fs'
-  pub ended : q.calls ≡ r.calls → calls_left ks ns q.calls q.at ≡ []
+pub record Ran (r : Run) (vs : List ℕ) (fs : List Float) (q : Run) (vs' : List ℕ) (fs' : List Float) : Type 0 where
+  pub along : Along r vs fs q vs' fs'
+  pub ended : length q.left.kinds.now ≡ length r.left.kinds.now → calls_of q.left ≡ []

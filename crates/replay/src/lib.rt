@@ -2,13 +2,13 @@
 // loop of their own, which the compiler makes of one that is generic in the kind, so that a turn need not ask for the kind among all.
 #![tactic(auto)]
 
-ghost use Rattle.std.specs.Prelude.{◌≡◌, ℕ, ◌+◌, ◌≤◌, ◌<◌, length, take, drop, is_some, IfSome, refl};
+ghost use Rattle.std.specs.Prelude.{◌≡◌, ℕ, ◌+◌, ◌≤◌, [], length, MatchOption, refl};
 ghost use Rattle.std.proofs.Common.{rules};
 ghost use Rattle.builder.specs.Build as build;
 ghost use Rattle.builder.specs.Build.{called};
-ghost use Rattle.replay.specs.Calls.{taken, call_of};
+ghost use Rattle.replay.specs.Calls.{max_length, taken, call_of};
 ghost use Rattle.replay.specs.Replay.{outcome, replayed};
-ghost use Rattle.replay.specs.Run.{max_length, Next, Follows, Ran, behind};
+ghost use Rattle.replay.specs.RuleKinds.{rule_kind, rule_is_kind, rule_takes};
 
 use builder::{PathBuilder, Reply};
 use path::FillRule;
@@ -29,16 +29,6 @@ trait Kind<const N: usize> {
     ghost is_kind: { BYTE ≤ 8 };
 
     ghost takes: { taken BYTE ≡ N };
-}
-
-// The reply of a call that takes no buffer and refuses nothing.
-fn settled(state: PathBuilder) -> Reply
-    ensures { result ≡ build.settled state }
-{
-    Reply {
-        state,
-        quads: Ok(0),
-    }
 }
 
 struct Moves;
@@ -153,38 +143,16 @@ impl Kind<5> for Conics {
     }
 }
 
-struct NonZeroRules;
+struct Rules<const EVEN_ODD: bool>;
 
-impl Kind<0> for NonZeroRules {
-    const BYTE: u8 = 6;
+impl<const EVEN_ODD: bool> Kind<0> for Rules<EVEN_ODD> {
+    const BYTE: u8 = if EVEN_ODD { 7 } else { 6 };
 
-    ghost BYTE = { 6 };
+    ghost BYTE = { rule_kind EVEN_ODD };
 
-    ghost is_kind = { Prim.search rules };
+    ghost is_kind = { rule_is_kind EVEN_ODD };
 
-    ghost takes = { refl };
-
-    #[tactic(auto, using(crate::proofs::Tables::told_called))]
-    fn play(
-        state: PathBuilder,
-        _numbers: &[f32; 0],
-        verbs: &mut [u8],
-        points: &mut [f32],
-    ) -> Reply {
-        settled(state.with_fill_rule(FillRule::NonZero))
-    }
-}
-
-struct EvenOddRules;
-
-impl Kind<0> for EvenOddRules {
-    const BYTE: u8 = 7;
-
-    ghost BYTE = { 7 };
-
-    ghost is_kind = { Prim.search rules };
-
-    ghost takes = { refl };
+    ghost takes = { rule_takes EVEN_ODD };
 
     #[tactic(auto, using(crate::proofs::Tables::told_called))]
     fn play(
@@ -193,7 +161,12 @@ impl Kind<0> for EvenOddRules {
         verbs: &mut [u8],
         points: &mut [f32],
     ) -> Reply {
-        settled(state.with_fill_rule(FillRule::EvenOdd))
+        let rule = if EVEN_ODD {
+            FillRule::EvenOdd
+        } else {
+            FillRule::NonZero
+        };
+        state.with_fill_rule(rule).into()
     }
 }
 
@@ -215,110 +188,116 @@ impl Kind<5> for Notes {
             min: Vec2 { x: x0, y: y0 },
             max: Vec2 { x: x1, y: y1 },
         };
-        settled(state.as_rounded_rect(rect, radius))
+        state.as_rounded_rect(rect, radius).into()
     }
 }
 
 // ---- the calls that stand next, as long as they are of one kind
 
-// An encoded list of calls: their kinds, and all their numbers.
+// What is left of an encoded list of calls: their kinds, and all their numbers.
 #[derive(Clone, Copy)]
 struct CallList<'a> {
     kinds: &'a [u8],
     numbers: &'a [f32],
 }
 
-// Where the playing stands: how many calls were played, the numbers that they took, how many were refused, and the state.
-#[derive(Clone, Copy)]
-struct Run {
-    calls: usize,
-    at: usize,
-    refused: usize,
-    state: PathBuilder,
-}
+impl<'a> CallList<'a> {
+    ghost use Rattle.replay.specs.Run.{next_kind, calls_of, First};
 
-impl Run {
-    // The numbers of the next call, if it is of kind K and they are there.
-    fn next<'a, const N: usize, K: Kind<N>>(self, list: CallList<'a>) -> Option<&'a [f32; N]>
-        requires { self.at ≤ length list.numbers.now }
-        ensures follows { Follows K.BYTE N list.entry.kinds.now self.calls list.entry.numbers.now self.at (is_some result) }
-        ensures own { IfSome result (λ a. a.now ≡ take N (drop self.at list.entry.numbers.now)) }
+    // The first call's numbers and the list behind it, if the call is of kind K and its numbers are there.
+    fn split_first<const N: usize, K: Kind<N>>(self) -> Option<(&'a [f32; N], CallList<'a>)>
+        ensures { MatchOption result (next_kind self.entry ≡ K.BYTE → calls_of self.entry ≡ []) (λ p. First K.BYTE self.entry p.0.now p.1) }
     {
-        if list.kinds.get(self.calls) != Some(&K::BYTE) {
+        let (&kind, kinds) = self.kinds.split_first()?;
+        if kind != K::BYTE {
             return None;
         }
-        list.numbers[self.at..].first_chunk()
+        let (own, numbers) = self.numbers.split_first_chunk()?;
+        Some((own, CallList { kinds, numbers }))
     }
+}
 
-    // Goes on behind a call that took n numbers and got this reply.
-    fn go_on(self, reply: Reply, n: usize) -> Run
-        requires { (self.calls < max_length) × (self.refused ≤ self.calls) × (self.at + n ≤ max_length) }
-        ensures { result ≡ behind self reply n }
+// Where the playing stands: what is left of the list, how many calls were refused, and the state. No more are refused than a slice can be long.
+#[derive(Clone, Copy)]
+struct Run<'a> {
+    left: CallList<'a>,
+    refused: usize,
+    state: PathBuilder,
+    ghost few: { refused + length left.kinds.now ≤ max_length },
+}
+
+impl<'a> Run<'a> {
+    ghost use Rattle.replay.specs.Run.{next_kind, Begun, Behind, Ran};
+
+    // Before the first call, on a fresh builder.
+    fn new(kinds: &'a [u8], numbers: &'a [f32]) -> Run<'a>
+        ensures { Begun kinds.now numbers.now result }
     {
         Run {
-            calls: self.calls + 1,
-            at: self.at + n,
+            left: CallList { kinds, numbers },
+            refused: 0,
+            state: PathBuilder::new(),
+        }
+    }
+
+    // Goes on with the list that is left behind a call that got this reply.
+    fn go_on(self, reply: Reply, left: CallList<'a>) -> Run<'a>
+        requires { length left.kinds.now + 1 ≡ length self.left.kinds.now }
+        ensures { Behind self.entry reply left.entry result }
+    {
+        Run {
+            left,
             refused: self.refused + usize::from(reply.quads.is_err()),
             state: reply.state,
         }
     }
-}
 
-// Plays the calls that stand next, as long as they are of kind K.
-fn play_run<const N: usize, K: Kind<N>>(
-    r: Run,
-    list: CallList,
-    verbs: &mut [u8],
-    points: &mut [f32],
-) -> Run
-    requires { Next K.BYTE list.kinds.now list.numbers.now r }
-    ensures { Ran list.entry.kinds.now list.entry.numbers.now r verbs.old points.old result verbs.new points.new }
-{
-    let mut q = r;
-    while let Some(own) = q.next::<N, K>(list) {
-        let reply = K::play(q.state, own, verbs, points);
-        q = q.go_on(reply, N);
+    // Plays the calls that stand next, as long as they are of kind K.
+    fn play_run<const N: usize, K: Kind<N>>(self, verbs: &mut [u8], points: &mut [f32]) -> Run<'a>
+        requires { next_kind self.left ≡ K.BYTE }
+        ensures { Ran self.entry verbs.old points.old result verbs.new points.new }
+    {
+        let mut q = self;
+        while let Some((own, left)) = q.left.split_first::<N, K>() {
+            let reply = K::play(q.state, own, verbs, points);
+            q = q.go_on(reply, left);
+        }
+        q
     }
-    q
-}
 
-// Plays the next call alone, if it is of kind K: with a loop for fill rules and notes too, lines took more instructions.
-fn play_one<const N: usize, K: Kind<N>>(
-    r: Run,
-    list: CallList,
-    verbs: &mut [u8],
-    points: &mut [f32],
-) -> Run
-    requires { Next K.BYTE list.kinds.now list.numbers.now r }
-    ensures { Ran list.entry.kinds.now list.entry.numbers.now r verbs.old points.old result verbs.new points.new }
-{
-    let Some(own) = r.next::<N, K>(list) else {
-        return r;
-    };
-    let reply = K::play(r.state, own, verbs, points);
-    r.go_on(reply, N)
+    // Plays the next call alone, if it is of kind K: with a loop for fill rules and notes too, lines took more instructions.
+    fn play_one<const N: usize, K: Kind<N>>(self, verbs: &mut [u8], points: &mut [f32]) -> Run<'a>
+        requires { next_kind self.left ≡ K.BYTE }
+        ensures { Ran self.entry verbs.old points.old result verbs.new points.new }
+    {
+        let Some((own, left)) = self.left.split_first::<N, K>() else {
+            return self;
+        };
+        let reply = K::play(self.state, own, verbs, points);
+        self.go_on(reply, left)
+    }
+
+    // Plays the calls that stand next, of this kind; of a byte that is no kind, nothing. A list comes as bytes, since C makes it.
+    fn play_kind(self, kind: u8, verbs: &mut [u8], points: &mut [f32]) -> Run<'a>
+        requires { next_kind self.left ≡ kind }
+        ensures { Ran self.entry verbs.old points.old result verbs.new points.new }
+    {
+        match kind {
+            0 => self.play_run::<2, Moves>(verbs, points),
+            1 => self.play_run::<2, Lines>(verbs, points),
+            2 => self.play_run::<4, Quads>(verbs, points),
+            3 => self.play_run::<6, Cubics>(verbs, points),
+            4 => self.play_run::<0, Closes>(verbs, points),
+            5 => self.play_run::<5, Conics>(verbs, points),
+            6 => self.play_one::<0, Rules<false>>(verbs, points),
+            7 => self.play_one::<0, Rules<true>>(verbs, points),
+            8 => self.play_one::<5, Notes>(verbs, points),
+            _ => self,
+        }
+    }
 }
 
 // ---- the whole list
-
-// Plays the calls that stand next, of this kind; of a byte that is no kind, nothing. A list comes as bytes, since C makes it.
-fn play_kind(r: Run, kind: u8, list: CallList, verbs: &mut [u8], points: &mut [f32]) -> Run
-    requires { Next kind list.kinds.now list.numbers.now r }
-    ensures { Ran list.entry.kinds.now list.entry.numbers.now r verbs.old points.old result verbs.new points.new }
-{
-    match kind {
-        0 => play_run::<2, Moves>(r, list, verbs, points),
-        1 => play_run::<2, Lines>(r, list, verbs, points),
-        2 => play_run::<4, Quads>(r, list, verbs, points),
-        3 => play_run::<6, Cubics>(r, list, verbs, points),
-        4 => play_run::<0, Closes>(r, list, verbs, points),
-        5 => play_run::<5, Conics>(r, list, verbs, points),
-        6 => play_one::<0, NonZeroRules>(r, list, verbs, points),
-        7 => play_one::<0, EvenOddRules>(r, list, verbs, points),
-        8 => play_one::<5, Notes>(r, list, verbs, points),
-        _ => r,
-    }
-}
 
 // What a list of calls left: the state, how many calls were played, and how many of them were refused.
 #[derive(Clone, Copy)]
@@ -333,30 +312,18 @@ pub fn replay(kinds: &[u8], numbers: &[f32], verbs: &mut [u8], points: &mut [f32
     ensures { outcome result verbs.new points.new
         ≡ replayed kinds.now numbers.now verbs.old points.old }
 {
-    let list = CallList { kinds, numbers };
-    let mut r = Run {
-        calls: 0,
-        at: 0,
-        refused: 0,
-        state: PathBuilder::new(),
-    };
+    let mut r = Run::new(kinds, numbers);
     // no `for`: a turn plays as many calls as are of one kind
-    while let Some(&kind) = list.kinds.get(r.calls) {
-        let i = r.calls;
-        r = play_kind(r, kind, list, verbs, points);
-        if r.calls == i {
+    while let Some(&kind) = r.left.kinds.first() {
+        let before = r.left.kinds.len();
+        r = r.play_kind(kind, verbs, points);
+        if r.left.kinds.len() == before {
             break;
         }
     }
-    let Run {
-        state,
-        calls,
-        refused,
-        ..
-    } = r;
     Replayed {
-        state,
-        calls,
-        refused,
+        state: r.state,
+        calls: kinds.len() - r.left.kinds.len(),
+        refused: r.refused,
     }
 }

@@ -1,11 +1,10 @@
 -- `replay::replay` meets its contract: what is left behind each run makes of the present what the whole list makes of a fresh builder. Assumes nothing.
-use Prim.Native.Nat.{◌-◌}
 use lib.ListN.{length}
 use Rattle.replay.specs.Run.{Along}
 use Rattle.replay.proofs.replay.Given as goal
 
 abbrev pub invariant-loop-kind : goal.invariant-loop-kind
-invariant-loop-kind l = Along l.fn.kinds l.fn.numbers l.initial.r l.initial.verbs l.initial.points l.r l.verbs l.points
+invariant-loop-kind l = Along l.initial.r l.initial.verbs l.initial.points l.r l.verbs l.points
 
 abbrev pub decreases-loop-kind : goal.decreases-loop-kind
-decreases-loop-kind l = length l.fn.kinds - l.r.calls
+decreases-loop-kind l = length l.r.left.kinds.now
