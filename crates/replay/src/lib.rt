@@ -209,10 +209,10 @@ impl<'a> CallList<'a> {
         ensures { MatchOption result (next_kind self.entry ≡ K.BYTE → calls_of self.entry ≡ []) (λ p. First K.BYTE self.entry p.0.now p.1) }
     {
         let (&kind, kinds) = self.kinds.split_first()?;
+        let (own, numbers) = self.numbers.split_first_chunk()?;
         if kind != K::BYTE {
             return None;
         }
-        let (own, numbers) = self.numbers.split_first_chunk()?;
         Some((own, CallList { kinds, numbers }))
     }
 }
