@@ -6,6 +6,8 @@ use Prim.Native.Nat.{ℕ, ◌≤◌, ◌<◌}
 use borrow.Author.Tests.{lt-ltb, le-ltb}
 use lib.ListN.{length, get_or, take, drop}
 use lib.Ieee.{Float}
+use Rattle.std.specs.Prelude.{Some, slice_get}
+use Rattle.std.proofs.lemmas.Option.{same_Some}
 use Rattle.replay.specs.Calls.{taken, call_of, calls}
 use Rattle.replay.proofs.Tables.{its_own}
 
@@ -20,13 +22,15 @@ bad_kind [] fs h = refl
 bad_kind (k ∷ ks) fs h = rw (lt-ltb 8 k h)
 
 -- a call of a kind k, which takes n numbers, stands first
-module _ {k n : ℕ} (good : k ≤ 8) (t : taken k ≡ n) {j : ℕ} {all ks : List ℕ} (e : all ≡ j ∷ ks) (d : j ≡ k) (fs : List Float) where
-  pub few_numbers : length fs < n → calls all fs ≡ []
+module _ {k n : ℕ} (good : k ≤ 8) (t : taken k ≡ n) where
+  pub few_numbers : (ks : List ℕ) (fs : List Float) → get_or ks 0 0 ≡ k → length fs < n → calls ks fs ≡ []
   unfolding calls
-  few_numbers h = rw (e, d, le-ltb 8 k good, t, lt-ltb (length fs) n h)
+  few_numbers [] fs d h = refl
+  few_numbers (j ∷ ks) fs d h = rw (d, le-ltb 8 k good, t, lt-ltb (length fs) n h)
 
-  pub one_more : n ≤ length fs → calls all fs ≡ call_of k (take n fs) ∷ calls ks (drop n fs)
+  pub one_more : (ks : List ℕ) (fs : List Float) → slice_get ks 0 ≡ Some k → n ≤ length fs → calls ks fs ≡ call_of k (take n fs) ∷ calls (drop 1 ks) (drop n fs)
   unfolding calls
-  one_more h =
+  one_more [] fs d h = absurd (cc)
+  one_more (j ∷ ks) fs d h =
       let its : call_of k (take n fs) ≡ call_of k fs = rw (← t) (its_own k good fs) in
-      rw (e, d, le-ltb 8 k good, t, le-ltb (length fs) n h, its)
+      rw (same_Some _ _ d, le-ltb 8 k good, t, le-ltb (length fs) n h, its)

@@ -2,7 +2,7 @@
 // loop of their own, which the compiler makes of one that is generic in the kind, so that a turn need not ask for the kind among all.
 #![tactic(auto)]
 
-ghost use Rattle.std.specs.Prelude.{◌≡◌, ℕ, ◌+◌, ◌≤◌, [], length, MatchOption, refl};
+ghost use Rattle.std.specs.Prelude.{◌≡◌, ℕ, ◌+◌, ◌≤◌, ◌<◌, [], length, MatchOption, refl};
 ghost use Rattle.std.proofs.Common.{rules};
 ghost use Rattle.builder.specs.Build as build;
 ghost use Rattle.builder.specs.Build.{called};
@@ -194,92 +194,85 @@ impl Kind<5> for Notes {
 
 // ---- the calls that stand next, as long as they are of one kind
 
-// What is left of an encoded list of calls: their kinds, and all their numbers.
-#[derive(Clone, Copy)]
-struct CallList<'a> {
-    kinds: &'a [u8],
-    numbers: &'a [f32],
-}
-
-impl<'a> CallList<'a> {
-    ghost use Rattle.replay.specs.Run.{next_kind, calls_of, First};
-
-    // The first call's numbers and the list behind it, if the call is of kind K and its numbers are there.
-    fn split_first<const N: usize, K: Kind<N>>(self) -> Option<(&'a [f32; N], CallList<'a>)>
-        ensures { MatchOption result (next_kind self.entry ≡ K.BYTE → calls_of self.entry ≡ []) (λ p. First K.BYTE self.entry p.0.now p.1) }
-    {
-        let (&kind, kinds) = self.kinds.split_first()?;
-        let (own, numbers) = self.numbers.split_first_chunk()?;
-        if kind != K::BYTE {
-            return None;
-        }
-        Some((own, CallList { kinds, numbers }))
-    }
-}
-
-// Where the playing stands: what is left of the list, how many calls were refused, and the state. No more are refused than a slice can be long.
+// Where the playing stands: what is left of the list, the kinds and all their numbers, how many calls were refused, and the state. No more are refused than a slice can be long.
 #[derive(Clone, Copy)]
 struct Run<'a> {
-    left: CallList<'a>,
+    kinds: &'a [u8],
+    numbers: &'a [f32],
     refused: usize,
     state: PathBuilder,
-    ghost few: { refused + length left.kinds.now ≤ max_length },
+    ghost few: { refused + length kinds.now ≤ max_length },
 }
 
 impl<'a> Run<'a> {
-    ghost use Rattle.replay.specs.Run.{next_kind, Begun, Behind, Ran};
+    ghost use Rattle.replay.specs.Run.{next_kind, calls_of, First, Begun, Behind, Ran};
 
     // Before the first call, on a fresh builder.
     fn new(kinds: &'a [u8], numbers: &'a [f32]) -> Run<'a>
         ensures { Begun kinds.now numbers.now result }
     {
         Run {
-            left: CallList { kinds, numbers },
+            kinds,
+            numbers,
             refused: 0,
             state: PathBuilder::new(),
         }
     }
 
-    // Goes on with the list that is left behind a call that got this reply.
-    fn go_on(self, reply: Reply, left: CallList<'a>) -> Run<'a>
-        requires { length left.kinds.now + 1 ≡ length self.left.kinds.now }
-        ensures { Behind self.entry reply left.entry result }
+    // The next call's numbers and those behind them, if it is of kind K and its numbers are there.
+    fn next<const N: usize, K: Kind<N>>(self) -> Option<(&'a [f32; N], &'a [f32])>
+        ensures { MatchOption result (next_kind self.entry ≡ K.BYTE → calls_of self.entry ≡ []) (λ p. First K.BYTE self.entry p.0.now p.1.now) }
     {
+        let (own, numbers) = self.numbers.split_first_chunk()?;
+        let &kind = self.kinds.first()?;
+        if kind != K::BYTE {
+            return None;
+        }
+        Some((own, numbers))
+    }
+
+    // Goes on behind a call that got this reply, with the numbers that are left then.
+    fn go_on(self, reply: Reply, numbers: &'a [f32]) -> Run<'a>
+        requires { 0 < length self.kinds.now }
+        ensures { Behind self.entry reply numbers.now result }
+    {
+        let refused = self.refused + usize::from(reply.quads.is_err());
         Run {
-            left,
-            refused: self.refused + usize::from(reply.quads.is_err()),
+            kinds: &self.kinds[1..],
+            numbers,
+            refused,
             state: reply.state,
         }
     }
 
     // Plays the calls that stand next, as long as they are of kind K.
     fn play_run<const N: usize, K: Kind<N>>(self, verbs: &mut [u8], points: &mut [f32]) -> Run<'a>
-        requires { next_kind self.left ≡ K.BYTE }
+        requires { next_kind self ≡ K.BYTE }
         ensures { Ran self.entry verbs.old points.old result verbs.new points.new }
     {
         let mut q = self;
-        while let Some((own, left)) = q.left.split_first::<N, K>() {
+        while let Some((own, numbers)) = q.next::<N, K>() {
             let reply = K::play(q.state, own, verbs, points);
-            q = q.go_on(reply, left);
+            q = q.go_on(reply, numbers);
         }
         q
     }
 
     // Plays the next call alone, if it is of kind K: with a loop for fill rules and notes too, lines took more instructions.
     fn play_one<const N: usize, K: Kind<N>>(self, verbs: &mut [u8], points: &mut [f32]) -> Run<'a>
-        requires { next_kind self.left ≡ K.BYTE }
+        requires { next_kind self ≡ K.BYTE }
         ensures { Ran self.entry verbs.old points.old result verbs.new points.new }
     {
-        let Some((own, left)) = self.left.split_first::<N, K>() else {
+        let Some((own, numbers)) = self.next::<N, K>() else {
             return self;
         };
         let reply = K::play(self.state, own, verbs, points);
-        self.go_on(reply, left)
+        self.go_on(reply, numbers)
     }
 
     // Plays the calls that stand next, of this kind; of a byte that is no kind, nothing. A list comes as bytes, since C makes it.
     fn play_kind(self, kind: u8, verbs: &mut [u8], points: &mut [f32]) -> Run<'a>
-        requires { next_kind self.left ≡ kind }
+        requires { next_kind self ≡ kind }
         ensures { Ran self.entry verbs.old points.old result verbs.new points.new }
     {
         match kind {
@@ -314,16 +307,16 @@ pub fn replay(kinds: &[u8], numbers: &[f32], verbs: &mut [u8], points: &mut [f32
 {
     let mut r = Run::new(kinds, numbers);
     // no `for`: a turn plays as many calls as are of one kind
-    while let Some(&kind) = r.left.kinds.first() {
-        let before = r.left.kinds.len();
+    while let Some(&kind) = r.kinds.first() {
+        let before = r.kinds.len();
         r = r.play_kind(kind, verbs, points);
-        if r.left.kinds.len() == before {
+        if r.kinds.len() == before {
             break;
         }
     }
     Replayed {
         state: r.state,
-        calls: kinds.len() - r.left.kinds.len(),
+        calls: kinds.len() - r.kinds.len(),
         refused: r.refused,
     }
 }

@@ -7,4 +7,4 @@ abbrev pub invariant-loop-kind : goal.invariant-loop-kind
 invariant-loop-kind l = Along l.initial.r l.initial.verbs l.initial.points l.r l.verbs l.points
 
 abbrev pub decreases-loop-kind : goal.decreases-loop-kind
-decreases-loop-kind l = length l.r.left.kinds.now
+decreases-loop-kind l = length l.r.kinds.now

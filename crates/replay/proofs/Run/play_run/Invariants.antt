@@ -7,4 +7,4 @@ abbrev pub invariant-loop-own : goal.invariant-loop-own
 invariant-loop-own g l = Along l.initial.q l.initial.verbs l.initial.points l.q l.verbs l.points
 
 abbrev pub decreases-loop-own : goal.decreases-loop-own
-decreases-loop-own g l = length l.q.left.kinds.now
+decreases-loop-own g l = length l.q.kinds.now
