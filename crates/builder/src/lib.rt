@@ -1,4 +1,5 @@
-// The path builder: a state by value, verbs and points in two lent buffers.
+// The path builder: a state by value, verbs and points in two lent buffers. The
+// verbs and points stay two arguments: a struct of two lent buffers would have to promise in each contract that it keeps those very references, and C lends them apart.
 #![tactic(auto)]
 
 ghost use Rattle.std.specs.Prelude.{◌≡◌, [], ◌∷◌, ◌++◌, true};
@@ -285,7 +286,7 @@ impl PathBuilder {
         self.draw(Segment::Cubic(c0, c1, to), verbs, points)
     }
 
-    // Closes the subpath: the pen returns to the latest move's point.
+    // Closes the subpath: the pen returns to the latest move's point. An `if`, as in `start`.
     pub fn close(self, verbs: &mut [u8], points: &mut [f32]) -> Reply
         ensures { outcome result verbs.new points.new ≡ called self verbs.old points.old Close }
     {

@@ -1,4 +1,5 @@
 // What a drawn call lays: a move where nothing stands, and its own verb; whole, or where it is refused not at all.
+// Its verbs and points stay two arguments: a struct of two lent buffers would have to promise in each contract that it keeps those very references, and C lends them apart.
 #![tactic(auto)]
 
 ghost use Rattle.std.specs.Prelude.{◌≡◌, [], ◌∷◌, length};

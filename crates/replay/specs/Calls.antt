@@ -9,10 +9,6 @@ use Rattle.path.specs.declared.FillRule.TheVariants.{NonZero, EvenOdd}
 use Rattle.builder.specs.declared.Call.{Call}
 use Rattle.builder.specs.declared.Call.TheVariants.{MoveTo, LineTo, QuadTo, ConicTo, CubicTo, Close, WithFillRule, AsRoundedRect}
 
--- no slice is longer: 2^63 − 1
-abbrev pub max_length : ℕ
-max_length = 9223372036854775807
-
 -- the numbers that each kind takes
 abbrev pub table : List ℕ
 table = 2 ∷ 2 ∷ 4 ∷ 6 ∷ 0 ∷ 5 ∷ 0 ∷ 0 ∷ 5 ∷ []

@@ -1,12 +1,13 @@
 // A list of builder calls, encoded, and played on a fresh builder: code for every list of demand 3 that two slices can hold. Calls of one kind that stand in a row are played by a
 // loop of their own, which the compiler makes of one that is generic in the kind, so that a turn need not ask for the kind among all.
+// Verbs and points stay two arguments: a struct of two lent buffers would have to promise in each contract that it keeps those very references, and C lends them apart.
 #![tactic(auto)]
 
 ghost use Rattle.std.specs.Prelude.{◌≡◌, ℕ, ◌+◌, ◌≤◌, ◌<◌, [], length, MatchOption, refl};
 ghost use Rattle.std.proofs.Common.{rules};
 ghost use Rattle.builder.specs.Build as build;
 ghost use Rattle.builder.specs.Build.{called};
-ghost use Rattle.replay.specs.Calls.{max_length, taken, call_of};
+ghost use Rattle.replay.specs.Calls.{taken, call_of};
 ghost use Rattle.replay.specs.Replay.{outcome, replayed};
 ghost use Rattle.replay.specs.RuleKinds.{rule_kind, rule_is_kind, rule_takes};
 
@@ -17,7 +18,8 @@ use vec2::Vec2;
 
 // ---- the kinds of calls
 
-// A kind of call: its byte, and what the builder does for one whose numbers are these N.
+// A kind of call: its byte, for C makes the list, and what the builder does for one whose numbers are these N. Each kind is a type, since it is its call of the builder
+// that tells it from the others: the two fill rules alone share theirs.
 trait Kind<const N: usize> {
     const BYTE: u8;
 
@@ -194,14 +196,22 @@ impl Kind<5> for Notes {
 
 // ---- the calls that stand next, as long as they are of one kind
 
-// Where the playing stands: what is left of the list, the kinds and all their numbers, how many calls were refused, and the state. No more are refused than a slice can be long.
+// What a list of calls left: the state, how many calls were played, and how many of them were refused.
+#[derive(Clone, Copy)]
+pub struct Replayed {
+    pub calls: usize,
+    pub refused: usize,
+    pub state: PathBuilder,
+}
+
+// Where the playing stands: the list's kinds, the numbers that are left, and what was played. The kinds are asked for by the count of calls, which is an
+// answer too: tried as a slice of those that are left, beside that of the numbers, a line took two or three instructions more.
 #[derive(Clone, Copy)]
 struct Run<'a> {
     kinds: &'a [u8],
     numbers: &'a [f32],
-    refused: usize,
-    state: PathBuilder,
-    ghost few: { refused + length kinds.now ≤ max_length },
+    done: Replayed,
+    ghost few: { (done.refused ≤ done.calls) × (done.calls ≤ length kinds.now) },
 }
 
 impl<'a> Run<'a> {
@@ -214,8 +224,11 @@ impl<'a> Run<'a> {
         Run {
             kinds,
             numbers,
-            refused: 0,
-            state: PathBuilder::new(),
+            done: Replayed {
+                state: PathBuilder::new(),
+                calls: 0,
+                refused: 0,
+            },
         }
     }
 
@@ -223,25 +236,28 @@ impl<'a> Run<'a> {
     fn next<const N: usize, K: Kind<N>>(self) -> Option<(&'a [f32; N], &'a [f32])>
         ensures { MatchOption result (next_kind self.entry ≡ K.BYTE → calls_of self.entry ≡ []) (λ p. First K.BYTE self.entry p.0.now p.1.now) }
     {
-        let (own, numbers) = self.numbers.split_first_chunk()?;
-        let &kind = self.kinds.first()?;
+        let &kind = self.kinds.get(self.done.calls)?;
         if kind != K::BYTE {
             return None;
         }
+        let (own, numbers) = self.numbers.split_first_chunk()?;
         Some((own, numbers))
     }
 
     // Goes on behind a call that got this reply, with the numbers that are left then.
     fn go_on(self, reply: Reply, numbers: &'a [f32]) -> Run<'a>
-        requires { 0 < length self.kinds.now }
+        requires { self.done.calls < length self.kinds.now }
         ensures { Behind self.entry reply numbers.now result }
     {
-        let refused = self.refused + usize::from(reply.quads.is_err());
-        Run {
-            kinds: &self.kinds[1..],
-            numbers,
-            refused,
+        let done = Replayed {
             state: reply.state,
+            calls: self.done.calls + 1,
+            refused: self.done.refused + usize::from(reply.quads.is_err()),
+        };
+        Run {
+            kinds: self.kinds,
+            numbers,
+            done,
         }
     }
 
@@ -252,7 +268,7 @@ impl<'a> Run<'a> {
     {
         let mut q = self;
         while let Some((own, numbers)) = q.next::<N, K>() {
-            let reply = K::play(q.state, own, verbs, points);
+            let reply = K::play(q.done.state, own, verbs, points);
             q = q.go_on(reply, numbers);
         }
         q
@@ -266,7 +282,7 @@ impl<'a> Run<'a> {
         let Some((own, numbers)) = self.next::<N, K>() else {
             return self;
         };
-        let reply = K::play(self.state, own, verbs, points);
+        let reply = K::play(self.done.state, own, verbs, points);
         self.go_on(reply, numbers)
     }
 
@@ -292,14 +308,6 @@ impl<'a> Run<'a> {
 
 // ---- the whole list
 
-// What a list of calls left: the state, how many calls were played, and how many of them were refused.
-#[derive(Clone, Copy)]
-pub struct Replayed {
-    pub state: PathBuilder,
-    pub calls: usize,
-    pub refused: usize,
-}
-
 // Plays an encoded list of calls on a fresh builder over the lent buffers.
 pub fn replay(kinds: &[u8], numbers: &[f32], verbs: &mut [u8], points: &mut [f32]) -> Replayed
     ensures { outcome result verbs.new points.new
@@ -307,16 +315,12 @@ pub fn replay(kinds: &[u8], numbers: &[f32], verbs: &mut [u8], points: &mut [f32
 {
     let mut r = Run::new(kinds, numbers);
     // no `for`: a turn plays as many calls as are of one kind
-    while let Some(&kind) = r.kinds.first() {
-        let before = r.kinds.len();
+    while let Some(&kind) = r.kinds.get(r.done.calls) {
+        let before = r.done.calls;
         r = r.play_kind(kind, verbs, points);
-        if r.kinds.len() == before {
+        if r.done.calls == before {
             break;
         }
     }
-    Replayed {
-        state: r.state,
-        calls: kinds.len() - r.kinds.len(),
-        refused: r.refused,
-    }
+    r.done
 }

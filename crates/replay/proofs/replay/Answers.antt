@@ -9,7 +9,7 @@ pub returns : goal.returns
 returns c =
     let l = c.loop-kind.invariant in
     let begun = c.new-r.ensures in
-    elim c.match-first.branch [
-      | in_default w ↦ rw (w.r-is, w.verbs-is, w.points-is) (over begun l (no_kinds _ _ (omega (arith, w.in_default.ensures.item))))
+    elim c.match-get.branch [
+      | in_default w ↦ rw (w.r-is, w.verbs-is, w.points-is) (over begun l (no_kinds c.loop-kind.r.kinds.now c.loop-kind.r.numbers.now c.loop-kind.r.done.calls (omega (arith, w.in_default.ensures.lookup))))
       | in-Some+then-r-before w ↦ let p = w.play_kind-r.ensures in rw (w.r-is, w.verbs-is, w.points-is) (over begun (onward l p.along) (p.ended w.if-r-before.true))
     ]
