@@ -1,6 +1,6 @@
 -- The call of each kind, and what a call answers. Assumes nothing.
 use mathlib.Core.Path.{◌≡◌, refl}
-use mathlib.Core.Bool.{Bool, true, false}
+use mathlib.Core.Bool.{false}
 use mathlib.Core.List.{List}
 use Prim.Native.Nat.{ℕ, zero, suc, ◌≤◌}
 use native.Mathlib.Omega.{arith}
@@ -8,15 +8,10 @@ use Rattle.std.proofs.Common.{rules}
 use lib.ListN.{take}
 use lib.Ieee.{Float}
 use Rattle.std.proofs.lemmas.List.{get_or-take}
-use Rattle.replay.specs.Replay.{one_if}
 use Rattle.builder.specs.declared.PathBuilder.{PathBuilder}
 use Rattle.builder.specs.declared.Call.{Call}
 use Rattle.builder.specs.Build.{outcome, settled, set_by, buffered, called}
 use Rattle.replay.specs.Calls.{taken, call_of}
-
-pub one_at_most : (b : Bool) → one_if b ≤ 1
-one_at_most true = omega arith
-one_at_most false = omega arith
 
 -- a call reads the numbers that its kind takes, and none behind them
 pub its_own : (k : ℕ) → k ≤ 8 → (fs : List Float) → call_of k (take (taken k) fs) ≡ call_of k fs

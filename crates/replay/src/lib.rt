@@ -196,7 +196,7 @@ impl Kind<5> for Notes {
 
 // ---- the calls that stand next, as long as they are of one kind
 
-// What a list of calls left: the state, how many calls were played, and how many of them were refused.
+// What a list of calls left: how many calls were played, how many of them were refused, and the state. With the state first, a line took five instructions more.
 #[derive(Clone, Copy)]
 pub struct Replayed {
     pub calls: usize,
