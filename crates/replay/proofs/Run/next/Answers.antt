@@ -17,9 +17,8 @@ returns-in_err-own g c =
 pub returns : goal.returns
 returns g c =
     let k = g.met.K.Kind in
+    let r = c.args.self in
     let at = c.in_ok-kind.ensures.lookup.3 in
     let own = c.in_ok-own.ensures.cases in
-    record {
-      kinds = at.0;
-      calls = rw (own.0, own.1) (one_more _ _ _ k.is_kind k.takes at.0 (sym (at.1 0) ∙ c.if-kind-BYTE.false ∙ c.BYTE.ensures) (omega (arith, own.2)));
-    }
+    let more = one_more r.kinds.now r.numbers.now r.done.calls k.is_kind k.takes at.0 (sym (at.1 0) ∙ c.if-kind-BYTE.false ∙ c.BYTE.ensures) (omega (arith, own.2)) in
+    record { kinds = at.0; calls = cc (more, own.0, own.1) }
