@@ -3,12 +3,12 @@
 --     replied, answered, unmoved        the whole outcome of a call, from what was laid
 --     close_called                      a close, where something stands and where nothing does
 --     conic_line, conic_called          a conic that is a line, or quads
---     past_quads                        where it stands behind a conic's quads
+--     past_quads, quads_room            where it stands behind a conic's quads, and their room
 -- Assumes nothing.
 use mathlib.Core.Path.{◌≡◌, refl, sym, ap, ◌∙◌}
 use mathlib.Core.Bool.{Bool, true, false}
 use mathlib.Core.List.{List, [], ◌∷◌, ◌++◌}
-use Prim.Native.Nat.{ℕ, ◌+◌, ◌*◌}
+use Prim.Native.Nat.{ℕ, ◌+◌, ◌*◌, ◌≤◌}
 use native.Mathlib.Omega.{arith}
 use lib.ListN.{length}
 use lib.Seq.{sets}
@@ -22,6 +22,7 @@ use Rattle.path.specs.declared.Refusal.{Refusal}
 use Rattle.path.specs.Refusal.{unless}
 use Rattle.path.specs.declared.Segment.{Segment}
 use Rattle.path.specs.declared.Segment.TheVariants.{Move, Line, Quad, Cubic, Close}
+use Rattle.path.specs.Check.{max_points}
 use Rattle.path.specs.Segment.{is_drawn, end_of, bytes_of, all_points}
 use Rattle.halves.specs.Conic.{straight, quads}
 use Rattle.halves.proofs.Laws.{Quads, one, more}
@@ -31,7 +32,8 @@ use Rattle.store.specs.declared.Standing.{Standing}
 use Rattle.store.specs.Store.{next, behind, Laid}
 use Rattle.store.proofs.Stored.{behind_counts}
 use Rattle.drawing.specs.Lay.{opening, lead}
-use Rattle.bending.proofs.Laws.{all_verbs, all_twice}
+use Rattle.bending.specs.Bend.{Curved}
+use Rattle.bending.proofs.Laws.{all_verbs, all_twice, curved_fits}
 use Rattle.builder.specs.declared.Call.TheVariants.{LineTo, ConicTo, Close as CloseIt}
 use Rattle.builder.specs.declared.PathBuilder.{PathBuilder}
 use Rattle.builder.specs.Call.{from, closing, lays}
@@ -140,3 +142,9 @@ pub past_quads : (at : Standing) (c : Conic) {l q : ℕ} → l ≡ lead at.start
 past_quads at c e d =
     let n = behind_counts (opening at.started ++ quads_of c) at in
     standing_as (behind at (opening at.started ++ quads_of c)) (rw (e, d) (omega (arith, n.0, all_verbs at c))) (rw (e, d) (omega (arith, n.1, all_twice at c))) (started at.started (quads_of c) at refl)
+
+pub quads_room : (at : Standing) (c : Conic) {l q : ℕ} {vs vs' : List ℕ} {fs fs' : List Float} → Curved (Ok q) at c vs fs vs' fs' → l ≡ lead at.started →
+    (at.verbs + (l + q) ≤ max_points) × (at.points + (l + 2 * q) ≤ max_points)
+quads_room at c g e =
+    let f = curved_fits at c g in
+    (omega (arith, e, f.1.few_verbs), omega (arith, e, f.1.few_points))

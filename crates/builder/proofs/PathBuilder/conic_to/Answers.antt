@@ -4,26 +4,23 @@ use native.Mathlib.Omega.{arith}
 use Rattle.std.specs.Prelude.{Ok, Err}
 use Rattle.halves.proofs.Laws.{quads_quads}
 use Rattle.bending.proofs.Laws.{curved_fits}
-use Rattle.builder.proofs.Lays.{draws_quads, opened, conic_line, conic_called, past_quads}
+use Rattle.builder.proofs.Lays.{draws_quads, opened, conic_line, conic_called, past_quads, quads_room}
 use Rattle.builder.proofs.PathBuilder.conic_to.Goals as goal
 
 pub returns-then-is_straight : goal.returns-then-is_straight
 returns-then-is_straight c = c.line_to.ensures ∙ conic_line _ _ _ _ _ _ (sym c.is_straight.ensures ∙ c.if-is_straight.true)
 
 pub overflow_add-lead : goal.overflow_add-lead
-overflow_add-lead c = let f = curved_fits _ _ c.in-Ok.ensures in let l = c.lead_of-lead.ensures in omega (arith, l, f.1.few_verbs)
+overflow_add-lead c = omega (arith, quads_room _ _ c.in-Ok.ensures c.lead_of-lead.ensures)
 
 pub overflow_mul-quads : goal.overflow_mul-quads
-overflow_mul-quads c = let f = curved_fits _ _ c.in-Ok.ensures in omega (arith, f.1.few_points)
+overflow_mul-quads c = omega (arith, quads_room _ _ c.in-Ok.ensures c.lead_of-lead.ensures)
 
 pub overflow_add-lead-in-Ok : goal.overflow_add-lead-in-Ok
-overflow_add-lead-in-Ok c = let f = curved_fits _ _ c.in-Ok.ensures in let l = c.lead_of-lead.ensures in omega (arith, l, f.1.few_points)
+overflow_add-lead-in-Ok c = omega (arith, quads_room _ _ c.in-Ok.ensures c.lead_of-lead.ensures)
 
 pub past-next-requires : goal.past-next-requires
-past-next-requires c =
-    let f = curved_fits _ _ c.in-Ok.ensures in
-    let l = c.lead_of-lead.ensures in
-    (omega (arith, l, f.1.few_verbs), omega (arith, l, f.1.few_points))
+past-next-requires c = quads_room _ _ c.in-Ok.ensures c.lead_of-lead.ensures
 
 pub returns-in-Ok : goal.returns-in-Ok
 returns-in-Ok c =
