@@ -1,5 +1,5 @@
-// The path builder: a state by value, verbs and points in two lent buffers. The
-// verbs and points stay two arguments: a struct of two lent buffers would have to promise in each contract that it keeps those very references, and C lends them apart.
+// The path builder: a state by value, verbs and points in two lent buffers.
+// Verbs and points stay two arguments: a struct of two lent buffers would have to promise in each contract that it keeps those very references, and C lends them apart.
 #![tactic(auto)]
 
 ghost use Rattle.std.specs.Prelude.{◌≡◌, [], ◌∷◌, ◌++◌, true};

@@ -1,4 +1,4 @@
--- The kinds of the two fill rules, which take no numbers.
+-- The kinds of the two fill rules, which take no numbers, with the two laws of a kind. Assumes nothing.
 use Rattle.std.specs.Prelude.{◌≡◌, ℕ, ◌≤◌, Bool, true, false, refl}
 use Rattle.std.proofs.Common.{arith}
 use Rattle.replay.specs.Calls.{taken}
