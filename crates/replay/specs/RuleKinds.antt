@@ -1,4 +1,4 @@
--- The kinds of the two fill rules, which take no numbers, with the two laws of a kind. Assumes nothing.
+-- The kinds of the two fill rules, which take no numbers. The two laws of a kind stand here, since an impl cites of its own crate what stands in specs. Assumes nothing.
 use Rattle.std.specs.Prelude.{◌≡◌, ℕ, ◌≤◌, Bool, true, false, refl}
 use Rattle.std.proofs.Common.{arith}
 use Rattle.replay.specs.Calls.{taken}
