@@ -5,9 +5,10 @@ ghost use Rattle.std.specs.Prelude.{◌≡◌};
 ghost use Rattle.float.specs.Pattern.{clamped_ceiling, CountRoot};
 ghost use Rattle.float.specs.Count.{segment_answer};
 
-use float::SegmentCount;
+use float::{MAX_SEGMENTS, SegmentCount};
 
-// Bits from which N and whether it was held back are read: those of the rounded root where s is above zero, else 0.
+// Bits from which N and whether it was held back are read: those of the rounded root where s is above zero, else 0. That is a root like any other, +0's, from
+// which both are read right: a `None` would only have them written a second time.
 fn count_root(squared: f32) -> u32
     ensures { CountRoot squared result }
 {
@@ -29,13 +30,13 @@ fn clamped_ceiling(b: u32) -> u32
         return 1;
     }
     if 0x4480_0000 <= b {
-        return 1000;
+        return MAX_SEGMENTS;
     }
     // from 1 up to 1024: of the 24 digits, 14 to 23 are below the point
     let shift = 150 - b / 0x80_0000;
     let digits = 0x80_0000 + b % 0x80_0000;
     let n = (digits + ((1 << shift) - 1)) >> shift;
-    if 1000 < n { 1000 } else { n }
+    n.min(MAX_SEGMENTS)
 }
 
 // How many segments a curve takes, from the square of their number by Wang's bound, and whether that was held back: the root is over 1,000.
@@ -45,6 +46,6 @@ pub fn segment_count(squared: f32) -> SegmentCount
     let root = count_root(squared);
     SegmentCount {
         count: clamped_ceiling(root),
-        held: 1000.0 < f32::from_bits(root),
+        held: (MAX_SEGMENTS as f32) < f32::from_bits(root),
     }
 }

@@ -4,13 +4,11 @@
 ghost use Rattle.std.specs.Prelude.{◌≡◌};
 ghost use Rattle.curve.specs.Count.{eval_quad, eval_cubic, scaled_tolerance};
 
+pub use float::MAX_SEGMENTS;
 use vec2::Vec2;
 
 // In device pixels.
 pub const DEFAULT_TOLERANCE: f32 = 0.25;
-
-// The most lines of a single curve.
-pub const MAX_SEGMENTS: u32 = 1000;
 
 // The tolerance in curve space, from the transform's largest scale factor.
 #[tactic(auto, unfolding(crate::specs::Count::scaled_tolerance))]
@@ -23,7 +21,8 @@ pub fn tolerance_for_scale(tolerance: f32, max_scale: f32) -> f32
     tolerance / max_scale
 }
 
-// Where the curve is at t.
+// Where the curve is at t. The points come one by one, as a segment names them and the source takes them: a struct would be made for each call, just to be taken
+// apart.
 pub fn eval_quad(p0: Vec2, p1: Vec2, p2: Vec2, t: f32) -> Vec2
     ensures { result ≡ eval_quad p0 p1 p2 t }
 {

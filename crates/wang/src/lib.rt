@@ -50,7 +50,8 @@ fn cubic_s(p0: Vec2, p1: Vec2, p2: Vec2, p3: Vec2, tolerance: f32) -> f32
     3.0 * m / slack_of(tolerance)
 }
 
-// How many lines a quad becomes, and whether it was held back (W2).
+// How many lines a quad becomes, and whether it was held back (W2). The pair are the scope's two forms; what they share is one function below them. The points
+// come one by one, as a segment names them, and the tolerance behind them, as in the source.
 pub fn quad_segment_count(p0: Vec2, p1: Vec2, p2: Vec2, tolerance: f32) -> SegmentCount
     ensures { result ≡ segment_answer (quad_s tolerance p0 p1 p2) }
 {

@@ -3,7 +3,7 @@ use mathlib.Core.Path.{sym, ◌∙◌}
 use Prim.Native.Nat.{◌-◌, ◌/◌, ◌^◌}
 use native.Mathlib.Omega.{arith}
 use lib.Pow.{pow_pos}
-use Rattle.float.proofs.Clamped.{from_low, from_high, from_finite, power_le, power_is, over, within}
+use Rattle.float.proofs.Clamped.{from_low, from_high, from_finite, power_le, power_is, at_most}
 use Rattle.count.proofs.clamped_ceiling.Goals as goal
 
 pub returns-then-b-lt1065353216 : goal.returns-then-b-lt1065353216
@@ -22,12 +22,7 @@ overflow_add-n c =
     let b = c.args.b in
     rw (power_is b c.if-b-lt1065353216.false c.if-b-ge1149239296.false) (omega (arith, power_le b c.if-b-lt1065353216.false c.if-b-ge1149239296.false))
 
-pub returns-then-n-gt1000 : goal.returns-then-n-gt1000
-returns-then-n-gt1000 c =
+pub returns : goal.returns
+returns c =
     let b = c.args.b in
-    over b c.if-b-lt1065353216.false c.if-b-ge1149239296.false c.if-n-gt1000.true ∙ sym (from_finite b (omega (arith, c.if-b-ge1149239296.false)))
-
-pub returns-else-n-gt1000 : goal.returns-else-n-gt1000
-returns-else-n-gt1000 c =
-    let b = c.args.b in
-    within b c.if-b-lt1065353216.false c.if-b-ge1149239296.false c.if-n-gt1000.false ∙ sym (from_finite b (omega (arith, c.if-b-ge1149239296.false)))
+    c.min.ensures ∙ at_most b c.if-b-lt1065353216.false c.if-b-ge1149239296.false ∙ sym (from_finite b (omega (arith, c.if-b-ge1149239296.false)))
