@@ -1,5 +1,6 @@
 -- What the measuring promises: the totals so far, segment by segment, and their range. Definitions only.
-use Rattle.std.specs.Prelude.{ℕ, ◌+◌, ◌*◌, ◌≤◌, not, List, [], ◌∷◌, Float}
+use Rattle.std.specs.Prelude.{ℕ, ◌+◌, ◌*◌, ◌≤◌, not, Option, is_none, List, [], ◌∷◌, Float}
+use Rattle.std.specs.Option.{unwrap_or}
 use Rattle.vec2.specs.declared.Vec2.{Vec2}
 use Rattle.path.specs.declared.Segment.{Segment}
 use Rattle.path.specs.Segment.{is_line}
@@ -7,7 +8,7 @@ use Rattle.float.specs.declared.SegmentCount.{SegmentCount}
 use Rattle.polyline.specs.declared.Spot.{Spot}
 use Rattle.polyline.specs.declared.Tally.{Tally}
 use Rattle.polyline.specs.declared.Gauge.{Gauge}
-use Rattle.polyline.specs.Flatten.{drawn_to, close_adds, after_close, after, one, opens, adds, curve_count, is_held}
+use Rattle.polyline.specs.Flatten.{drawn_to, close_adds, after_close, after, one, opens, adds, no_count, curve_count, is_held}
 
 abbrev pub none : Tally
 none = record { starts = 0; lines = 0; counts = 0; closings = 0; held = 0 }
@@ -22,14 +23,15 @@ tally tol w s t =
       held = t.held + one (is_held tol w s);
     }
 
--- the totals so far, and where the flattening stands: with a drawn segment to p more, `line` of a line and a curve's count; with a close; with any segment
-abbrev pub drawn_more : Gauge → Vec2 → ℕ → SegmentCount → Gauge
-drawn_more g p line n =
+-- the totals so far, and where the flattening stands: with a drawn segment to p more, a curve of so many lines or a line; with a close; with any segment
+abbrev pub drawn_more : Gauge → Vec2 → Option SegmentCount → Gauge
+drawn_more g p curve =
+    let n = unwrap_or curve no_count in
     record {
       sum =
           record {
             starts = g.sum.starts + one (not g.spot.drawn);
-            lines = g.sum.lines + line;
+            lines = g.sum.lines + one (is_none curve);
             counts = g.sum.counts + n.count;
             closings = g.sum.closings;
             held = g.sum.held + one n.held;

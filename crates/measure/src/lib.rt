@@ -1,7 +1,7 @@
 // The totals of a flattening, measured before anything is written.
 #![tactic(auto)]
 
-ghost use Rattle.std.specs.Prelude.{◌≡◌, ◌≤◌, length};
+ghost use Rattle.std.specs.Prelude.{◌≡◌, ◌≤◌, length, IfSome};
 ghost use Rattle.path.specs.Segment.{segments};
 ghost use Rattle.path.specs.Check.{max_verbs};
 ghost use Rattle.polyline.specs.Flatten.{nowhere, curve_answer};
@@ -31,18 +31,19 @@ pub fn curve_answer(tolerance: f32, w: Spot, s: Segment) -> SegmentCount
     }
 }
 
-// A drawn segment to p more: `line` of a line, and a curve's count.
-fn add_drawn(g: Gauge, p: Vec2, line: usize, n: SegmentCount) -> Gauge
+// A drawn segment to p more: a curve of so many lines, or a line.
+fn add_drawn(g: Gauge, p: Vec2, curve: Option<SegmentCount>) -> Gauge
     requires small { Small max_verbs g.sum }
-    requires few { (line ≤ 1) × (n.count ≤ 1000) }
-    ensures { result ≡ drawn_more g p line n }
+    requires few { IfSome curve (λ n. n.count ≤ 1000) }
+    ensures { result ≡ drawn_more g p curve }
 {
     let t = g.sum;
     let w = g.spot;
+    let n = curve.unwrap_or(NO_COUNT);
     Gauge {
         sum: Tally {
             starts: t.starts + usize::from(!w.drawn),
-            lines: t.lines + line,
+            lines: t.lines + usize::from(curve.is_none()),
             counts: t.counts + n.count as usize,
             held: t.held + usize::from(n.held),
             ..t
@@ -68,7 +69,7 @@ fn add_close(g: Gauge) -> Gauge
 }
 
 // One segment more. Totals and place go by one `match`: with one for each of them the loop takes twice the time.
-#[tactic(auto, unfolding(crate::specs::Measure::tally, polyline::specs::Flatten::after, polyline::specs::Flatten::places, polyline::specs::Flatten::is_held))]
+#[tactic(auto, unfolding(crate::specs::Measure::tally, polyline::specs::Flatten::after, polyline::specs::Flatten::places, polyline::specs::Flatten::is_held), using(curve::proofs::Numbers::counted))]
 fn add_segment(g: Gauge, tolerance: f32, s: Segment) -> Gauge
     requires { Small max_verbs g.sum }
     ensures { result ≡ gauged tolerance s g }
@@ -79,14 +80,15 @@ fn add_segment(g: Gauge, tolerance: f32, s: Segment) -> Gauge
             spot: spot::move_to(p),
             ..g
         },
-        Segment::Line(p) => add_drawn(g, p, 1, NO_COUNT),
-        Segment::Quad(c, p) => add_drawn(g, p, 0, wang::quad_segment_count(pen, c, p, tolerance)),
-        Segment::Cubic(c, d, p) => add_drawn(
-            g,
-            p,
-            0,
-            wang::cubic_segment_count(pen, c, d, p, tolerance),
-        ),
+        Segment::Line(p) => add_drawn(g, p, None),
+        Segment::Quad(c, p) => {
+            let n = wang::quad_segment_count(pen, c, p, tolerance);
+            add_drawn(g, p, Some(n))
+        }
+        Segment::Cubic(c, d, p) => {
+            let n = wang::cubic_segment_count(pen, c, d, p, tolerance);
+            add_drawn(g, p, Some(n))
+        }
         Segment::Close => add_close(g),
     }
 }
