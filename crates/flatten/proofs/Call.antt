@@ -1,13 +1,16 @@
 -- The call: each way out gives what the definition gives. Assumes nothing.
-use mathlib.Core.Path.{◌≡◌, sym, ◌∙◌}
-use mathlib.Core.List.{List}
-use Prim.Native.Nat.{ℕ, ◌+◌, ◌*◌, ◌/◌, ◌%◌, ◌≤◌, ◌<◌}
+use mathlib.Core.Path.{◌≡◌, refl, sym, ◌∙◌}
+use mathlib.Core.List.{List, [], ◌∷◌}
+use Prim.Native.Nat.{ℕ, zero, suc, ◌+◌, ◌*◌, ◌/◌, ◌%◌, ◌≤◌, ◌<◌}
 use native.Mathlib.Omega.{arith}
 use borrow.Author.Tests.{lt-ltb, le-ltb, eq-eqb, ne_eqb}
-use lib.ListN.{length}
+use lib.ListN.{length, take}
 use lib.Seq.{sets}
 use lib.Ieee.{Float}
 use Rattle.vec2.specs.Points.{flat}
+use Rattle.std.specs.List.{fold, slice_get}
+use Rattle.std.specs.Option.{option_map_or}
+use Rattle.path.specs.declared.Segment.{Segment}
 use Rattle.path.specs.Segment.{segments}
 use Rattle.std.specs.Prelude.{Ok, Err}
 use Rattle.path.specs.declared.Refusal.{Refusal}
@@ -15,7 +18,8 @@ use Rattle.path.specs.declared.Refusal.TheVariants.{OddFloats, OutputFull}
 use Rattle.path.specs.Check.{check}
 use Rattle.segments.specs.Path.{Parts}
 use Rattle.polyline.specs.declared.Tally.{Tally}
-use Rattle.polyline.specs.Flatten.{nowhere, points_out, ends_out, check_outputs, outcome, flatten}
+use Rattle.polyline.specs.declared.Spot.{Spot}
+use Rattle.polyline.specs.Flatten.{nowhere, after, points_out, ends_out, check_outputs, outcome, flatten, no_count, curve_answer, count_at}
 use Rattle.measure.specs.Measure.{none, measured}
 use Rattle.polyline.specs.Subpaths.{marks_out}
 use Rattle.measure.proofs.Measures.{Meant, meant}
@@ -120,3 +124,12 @@ module _ (vs : List ℕ) (fs : List Float) (tol : Float) (out : List Float) (es 
             done o p q eo ep eq =
                 let k = means in
                 rw (none_over, eo, ep, eq, h.1) (cc)
+
+-- ---- a carried count
+
+-- that of segment j, where those before it lead
+pub count_at_is : (tol : Float) (ss : List Segment) (w : Spot) (j : ℕ) → count_at tol w ss j ≡ option_map_or (curve_answer tol (fold after w (take j ss))) (slice_get ss j) no_count
+unfolding count_at
+count_at_is tol [] w j = refl
+count_at_is tol (s ∷ ss) w zero = refl
+count_at_is tol (s ∷ ss) w (suc j) = count_at_is tol ss (after w s) j

@@ -2,8 +2,7 @@
 // after.
 #![tactic(auto)]
 
-ghost use Rattle.std.specs.Prelude.{◌≡◌, ◌≤◌, length};
-ghost use Rattle.path.specs.Check.{max_verbs};
+ghost use Rattle.std.specs.Prelude.{◌≡◌};
 ghost use Rattle.path.specs.Segment.{segments};
 ghost use Rattle.polyline.specs.Flatten.{nowhere, outcome, flatten, count_at, carried_count};
 
@@ -55,19 +54,17 @@ pub fn flatten(
 // ---- a carried count
 
 // The N of the verb at `index` and whether it was held back: 0 and false where that is no curve, or past the end.
-#[tactic(auto, unfolding(polyline::specs::Flatten::count_at))]
 fn count_at(path: &Path<'_>, tolerance: f32, index: usize) -> SegmentCount
-    requires { length path.now.verbs ≤ max_verbs }
     ensures { result ≡ count_at tolerance nowhere (segments path.now.verbs path.now.points) index }
 {
-    let mut w = spot::start_of_path();
-    for (i, s) in path.segments().enumerate() {
-        if i == index {
-            return measure::curve_answer(tolerance, w, s);
-        }
-        w = spot::advance(w, s);
-    }
-    measure::NO_COUNT
+    let w = path
+        .segments()
+        .take(index)
+        .fold(spot::start_of_path(), spot::advance);
+    path.segments().nth(index).map_or(
+        measure::NO_COUNT,
+        |s| measure::curve_answer(tolerance, w, s),
+    )
 }
 
 // The N that the curve at verb `index` is written with, and whether it was held back.
