@@ -30,13 +30,7 @@ pub fn flatten(
     let path = Path::new(verbs, points)?;
     let t = measure::measure(&path, tolerance);
     let n = t.starts + t.lines + t.counts + t.closings;
-    if out.len() / 2 < n {
-        return Err(Refusal::OutputFull);
-    }
-    if ends.len() < t.starts {
-        return Err(Refusal::OutputFull);
-    }
-    if marks.len() < t.starts {
+    if out.len() / 2 < n || ends.len() < t.starts || marks.len() < t.starts {
         return Err(Refusal::OutputFull);
     }
     write::write_path(&path, tolerance, out, ends, marks);
