@@ -5,7 +5,7 @@
 use vec2::Vec2;
 
 // The answer: the totals, and how many curves were held back (W2).
-#[derive(Clone, Copy, PartialEq, Eq, Default)]
+#[derive(Clone, Copy, Default, PartialEq, Eq)]
 pub struct Flattened {
     pub points: usize,
     pub polylines: usize,
@@ -27,8 +27,9 @@ pub struct Spot {
     pub drawn: bool,
 }
 
-// The totals that a segment adds to.
-#[derive(Clone, Copy, Default)]
+// The totals that a segment adds to: five of the seven, since the sum of four of them and the polylines, which are as many as the starts, are read from them
+// at the end. `Flattened` lists all seven side by side, as the scope and C's struct name them.
+#[derive(Clone, Copy, Default, PartialEq, Eq)]
 pub struct Tally {
     pub starts: usize,
     pub lines: usize,

@@ -1,5 +1,6 @@
 -- What the writing promises: points, ends and marks stored one behind the other. Definitions only.
-use Rattle.std.specs.Prelude.{◌≡◌, ℕ, pred, ◌+◌, ◌*◌, Bool, not, List, ◌++◌, length, Float}
+use Rattle.std.specs.Prelude.{◌≡◌, ℕ, pred, ◌+◌, ◌*◌, Bool, not, Option, List, ◌++◌, length, Float}
+use Rattle.std.specs.Option.{option_len, option_map, option_to_list}
 use Rattle.std.proofs.lemmas.List.Edits.{sets}
 use Rattle.vec2.specs.declared.Vec2.{Vec2}
 use Rattle.vec2.specs.Points.{flat}
@@ -26,11 +27,11 @@ pub record Wrote (before left : List Float) (at next : ℕ) (ps : List Vec2) : T
   pub stored : left ≡ sets before (2 * at) (flat ps)
   pub moved : next ≡ at + length ps
 
--- an end and its mark stored at place `at`, if they are wanted, and the place behind them
-pub record Ended (ends ends' marks marks' : List ℕ) (at next : ℕ) (wanted : Bool) (n m : ℕ) : Type 0 where
-  pub ended : ends' ≡ sets ends at (only_if wanted n)
-  pub marked : marks' ≡ sets marks at (only_if wanted m)
-  pub moved : next ≡ at + length (only_if wanted n)
+-- an end, if there is one, stored with its mark at place `at`, and the place behind them
+pub record Ended (ends ends' marks marks' : List ℕ) (at next : ℕ) (end : Option ℕ) (m : ℕ) : Type 0 where
+  pub ended : ends' ≡ sets ends at (option_to_list end)
+  pub marked : marks' ≡ sets marks at (option_to_list (option_map (λ _. m) end))
+  pub moved : next ≡ at + option_len end
 
 -- whether the last of the verbs is a close
 abbrev pub last_closes : List ℕ → Bool
