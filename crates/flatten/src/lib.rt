@@ -62,7 +62,7 @@ fn count_at(path: &Path<'_>, tolerance: f32, index: usize) -> SegmentCount
 }
 
 // The N that the curve at verb `index` is written with, and whether it was held back.
-#[tactic(auto, unfolding(polyline::specs::Flatten::carried_count), using(segments::proofs::Answer::passed, segments::proofs::Answer::refused))]
+#[tactic(auto, unfolding(polyline::specs::Flatten::carried_count))]
 pub fn carried_count(
     verbs: &[u8],
     points: &[f32],

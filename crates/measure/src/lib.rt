@@ -31,7 +31,8 @@ pub fn curve_answer(tolerance: f32, w: Spot, s: Segment) -> SegmentCount
     }
 }
 
-// A drawn segment to p more: a curve of so many lines, or a line.
+// A drawn segment to p more: a curve of so many lines, or a line. `Small` stays a clause, here and below: the totals grow with each segment, so that no bound of
+// theirs is an invariant of the struct.
 fn add_drawn(g: Gauge, p: Vec2, curve: Option<SegmentCount>) -> Gauge
     requires small { Small max_verbs g.sum }
     requires few { IfSome curve (λ n. n.count ≤ 1000) }

@@ -31,6 +31,7 @@ fn put_if(out: &mut [f32], at: usize, wanted: bool, p: Vec2) -> usize
 }
 
 // Writes the inner points of a curve of n lines, from point `at` on. A function of its own in the machine too: the compiler then works out x and y side by side.
+// The place goes by i: of what the chunks of two floats are given (tried: `zip` with `chunks_exact_mut`) nothing is known behind the loop.
 #[inline(never)]
 fn write_inner<F: Fn(f32) -> Vec2>(out: &mut [f32], at: usize, curve: F, n: u16)
     requires callable { F.IsAlwaysCallable curve }
@@ -61,7 +62,8 @@ fn draw<F: Fn(f32) -> Vec2>(out: &mut [f32], at: usize, w: Spot, curve: F, n: u3
     }
 }
 
-// Writes what a segment writes from point `at` on. Points and place go by one `match`, as in measuring.
+// Writes what a segment writes from point `at` on. Points and place go by one `match`, as in measuring. Tolerance, place and segment come apart, as the
+// definitions take them: the first is the same for all, the others change with each segment, so a struct would be made anew just to be taken apart.
 #[tactic(auto, unfolding(polyline::specs::Flatten::writes, polyline::specs::Flatten::body, polyline::specs::Flatten::after))]
 fn write_segment(out: &mut [f32], at: usize, tolerance: f32, w: Spot, s: Segment) -> Trace
     requires { 2 * (at + length (writes tolerance w s)) ≤ length out.old }
