@@ -30,10 +30,7 @@ pub fn eval_quad(p0: Vec2, p1: Vec2, p2: Vec2, t: f32) -> Vec2
     let a = mt * mt;
     let b = 2.0 * mt * t;
     let c = t * t;
-    Vec2 {
-        x: p0.x * a + p1.x * b + p2.x * c,
-        y: p0.y * a + p1.y * b + p2.y * c,
-    }
+    p0 * a + p1 * b + p2 * c
 }
 
 // The same of a cubic, by its own sums.
@@ -47,8 +44,5 @@ pub fn eval_cubic(p0: Vec2, p1: Vec2, p2: Vec2, p3: Vec2, t: f32) -> Vec2
     let b = 3.0 * mt2 * t;
     let c = 3.0 * mt * t2;
     let d = t2 * t;
-    Vec2 {
-        x: p0.x * a + p1.x * b + p2.x * c + p3.x * d,
-        y: p0.y * a + p1.y * b + p2.y * c + p3.y * d,
-    }
+    p0 * a + p1 * b + p2 * c + p3 * d
 }

@@ -16,7 +16,8 @@ use Rattle.std.specs.Prelude.{Ok, Err}
 use Rattle.path.specs.declared.Refusal.{Refusal}
 use Rattle.path.specs.declared.Refusal.TheVariants.{OddFloats, OutputFull}
 use Rattle.path.specs.Check.{check}
-use Rattle.segments.specs.Path.{Parts}
+use Rattle.segments.specs.Path.{Parts, checked}
+use Rattle.segments.proofs.Answer.{passed, refused}
 use Rattle.polyline.specs.declared.Tally.{Tally}
 use Rattle.polyline.specs.declared.Spot.{Spot}
 use Rattle.polyline.specs.Flatten.{nowhere, after, points_out, ends_out, check_outputs, outcome, flatten, no_count, curve_answer, count_at}
@@ -38,14 +39,17 @@ module _ (vs : List ℕ) (fs : List Float) (tol : Float) (out : List Float) (es 
   odd_out h = refuses OddFloats (odd h)
 
   module _ (h1 : length out % 2 ≡ 1 → ⊥) where
-    path_refused : (x : Refusal) → check vs fs ≡ Err x → check_outputs vs fs tol out es ms ≡ Err x
+    path_refused : (x : Refusal) → checked vs fs ≡ Err x → check_outputs vs fs tol out es ms ≡ Err x
     unfolding check_outputs
-    path_refused x h = rw (ne_eqb (length out % 2) 1 h1, h)
+    path_refused x h = rw (ne_eqb (length out % 2) 1 h1, refused vs fs x h)
 
-    pub bad_path : (x : Refusal) → check vs fs ≡ Err x → outcome (Err x) out es ms ≡ flatten vs fs tol out es ms
+    pub bad_path : (x : Refusal) → checked vs fs ≡ Err x → outcome (Err x) out es ms ≡ flatten vs fs tol out es ms
     bad_path x h = refuses x (path_refused x h)
 
-    module _ (path : Parts) (h : (check vs fs ≡ Ok tt) × (path ≡ record { verbs = vs; points = fs })) (t : Tally) (m : t ≡ measured tol none nowhere (segments path.verbs path.points)) where
+    module _ (path : Parts) (p : checked vs fs ≡ Ok path) (t : Tally) (m : t ≡ measured tol none nowhere (segments path.verbs path.points)) where
+      h : (check vs fs ≡ Ok tt) × (path ≡ record { verbs = vs; points = fs })
+      h = passed vs fs path p
+
       good : check vs fs ≡ Ok tt
       good = h.0
 
@@ -107,8 +111,8 @@ module _ (vs : List ℕ) (fs : List Float) (tol : Float) (out : List Float) (es 
                 × (length (ends_out tol (segments path.verbs path.points)) ≤ length es) × (length (marks_out (segments path.verbs path.points)) ≤ length ms)
             has_room = rw h.1 (omega (arith, h2, means.points), omega (arith, h3, means.polylines), omega (arith, h4, long_marks))
 
-            pub done : (o : List Float) (p q : List ℕ) →
-                o ≡ sets out 0 (flat (points_out tol (segments path.verbs path.points))) → p ≡ sets es 0 (ends_out tol (segments path.verbs path.points)) → q ≡ sets ms 0 (marks_out (segments path.verbs path.points)) →
+            pub done : (o : List Float) (es' ms' : List ℕ) →
+                o ≡ sets out 0 (flat (points_out tol (segments path.verbs path.points))) → es' ≡ sets es 0 (ends_out tol (segments path.verbs path.points)) → ms' ≡ sets ms 0 (marks_out (segments path.verbs path.points)) →
                 outcome
                 (Ok (record {
                   points = t.starts + t.lines + t.counts + t.closings;
@@ -118,10 +122,10 @@ module _ (vs : List ℕ) (fs : List Float) (tol : Float) (out : List Float) (es 
                   counts = t.counts;
                   closings = t.closings;
                   held = t.held;
-                })) o p q
+                })) o es' ms'
                 ≡ flatten vs fs tol out es ms
             unfolding flatten
-            done o p q eo ep eq =
+            done o es' ms' eo ep eq =
                 let k = means in
                 rw (none_over, eo, ep, eq, h.1) (cc)
 

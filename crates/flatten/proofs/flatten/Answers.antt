@@ -1,6 +1,6 @@
 use Rattle.std.proofs.Common.{sym, ◌∙◌}
 use Rattle.std.proofs.lemmas.Result.{err_from_is_err_and}
-use Rattle.segments.proofs.Answer.{passed, refused, few}
+use Rattle.segments.proofs.Answer.{few}
 use Rattle.flatten.proofs.Call.{odd_out, bad_path, few_points, few_ends, few_marks, has_room, done}
 use Rattle.flatten.proofs.flatten.Goals.{then-out-n-via-then-out-n, then-out-n-via-else-out-n+then-ends-t, then-out-n-via-else-out-n+else-ends-t+then-marks-t}
 use Rattle.flatten.proofs.flatten.Goals as goal
@@ -12,7 +12,7 @@ pub returns-in_err-path : goal.returns-in_err-path
 returns-in_err-path c =
     let a = c.args in
     let p = err_from_is_err_and c.from_residual.result c.from_residual.ensures.1 in
-    rw (p.1, p.2) (bad_path a.verbs.now a.points.now a.tolerance _ _ _ c.if-out-eq1.false _ (refused _ _ _ (sym c.new.ensures ∙ c.in_err-path.was)))
+    rw (p.1, p.2) (bad_path a.verbs.now a.points.now a.tolerance _ _ _ c.if-out-eq1.false _ (sym c.new.ensures ∙ c.in_err-path.was))
 
 pub measure-t-requires : goal.measure-t-requires
 measure-t-requires c = record { few = few _ _ _ (sym c.new.ensures ∙ c.in_ok-path.was) }
@@ -21,19 +21,19 @@ pub returns-then-out-n : goal.returns-then-out-n
 returns-then-out-n c =
     let a = c.args in
     elim c.then-out-n.branch [
-      then-out-n-via-then-out-n w ↦ few_points a.verbs.now a.points.now a.tolerance _ _ _ c.if-out-eq1.false _ (passed _ _ _ (sym c.new.ensures ∙ c.in_ok-path.was)) _ c.measure-t.ensures.same w.if-out-n.true
-      | then-out-n-via-else-out-n+then-ends-t w ↦ few_ends a.verbs.now a.points.now a.tolerance _ _ _ c.if-out-eq1.false _ (passed _ _ _ (sym c.new.ensures ∙ c.in_ok-path.was)) _ c.measure-t.ensures.same w.if-out-n.false w.if-ends-t.true
-      | then-out-n-via-else-out-n+else-ends-t+then-marks-t w ↦ few_marks a.verbs.now a.points.now a.tolerance _ _ _ c.if-out-eq1.false _ (passed _ _ _ (sym c.new.ensures ∙ c.in_ok-path.was)) _ c.measure-t.ensures.same w.if-out-n.false w.if-ends-t.false w.if-marks-t.true
+      | then-out-n-via-then-out-n w ↦ few_points a.verbs.now a.points.now a.tolerance _ _ _ c.if-out-eq1.false _ (sym c.new.ensures ∙ c.in_ok-path.was) _ c.measure-t.ensures.same w.if-out-n.true
+      | then-out-n-via-else-out-n+then-ends-t w ↦ few_ends a.verbs.now a.points.now a.tolerance _ _ _ c.if-out-eq1.false _ (sym c.new.ensures ∙ c.in_ok-path.was) _ c.measure-t.ensures.same w.if-out-n.false w.if-ends-t.true
+      | then-out-n-via-else-out-n+else-ends-t+then-marks-t w ↦ few_marks a.verbs.now a.points.now a.tolerance _ _ _ c.if-out-eq1.false _ (sym c.new.ensures ∙ c.in_ok-path.was) _ c.measure-t.ensures.same w.if-out-n.false w.if-ends-t.false w.if-marks-t.true
     ]
 
 pub write_path-requires : goal.write_path-requires
 write_path-requires c =
     let a = c.args in
-    let r = has_room a.verbs.now a.points.now a.tolerance a.out.now a.ends.now a.marks.now c.if-out-eq1.false _ (passed _ _ _ (sym c.new.ensures ∙ c.in_ok-path.was)) _ c.measure-t.ensures.same c.if-out-n.false c.if-ends-t.false c.if-marks-t.false in
+    let r = has_room a.verbs.now a.points.now a.tolerance a.out.now a.ends.now a.marks.now c.if-out-eq1.false _ (sym c.new.ensures ∙ c.in_ok-path.was) _ c.measure-t.ensures.same c.if-out-n.false c.if-ends-t.false c.if-marks-t.false in
     record { out = r.0; ends = r.1; marks = r.2 }
 
 pub returns : goal.returns
 returns c =
     let a = c.args in
     let w = c.write_path.ensures in
-    done a.verbs.now a.points.now a.tolerance _ _ _ c.if-out-eq1.false _ (passed _ _ _ (sym c.new.ensures ∙ c.in_ok-path.was)) _ c.measure-t.ensures.same c.if-out-n.false c.if-ends-t.false c.if-marks-t.false _ _ _ w.out w.ends w.marks
+    done a.verbs.now a.points.now a.tolerance _ _ _ c.if-out-eq1.false _ (sym c.new.ensures ∙ c.in_ok-path.was) _ c.measure-t.ensures.same c.if-out-n.false c.if-ends-t.false c.if-marks-t.false _ _ _ w.out w.ends w.marks
