@@ -15,12 +15,12 @@ pub fn start_of_path() -> Spot
 }
 
 // Whether a close writes the move's point. A start that is a NaN equals nothing, itself included.
-#[tactic(auto, unfolding(polyline::specs::Flatten::close_adds))]
+#[tactic(auto, unfolding(polyline::specs::Flatten::close_adds, vec2::specs::Vec2::same_as))]
 pub fn close_adds(w: Spot) -> bool
     ensures { result ≡ close_adds w }
 {
     let start = w.start;
-    w.drawn && start.same(start) && !w.last.same(start)
+    w.drawn && start == start && w.last != start
 }
 
 pub fn move_to(p: Vec2) -> Spot
