@@ -18,7 +18,7 @@ use segments::Path;
 use vec2::Vec2;
 
 // Writes a point if it is wanted, and says where the next one goes. By an Option of the point a path of lines takes a quarter more instructions, an eighth more
-// time: its loop reads each verb twice then.
+// time: its loop then asks twice which verb it has.
 fn put_if(out: &mut [f32], at: usize, wanted: bool, p: Vec2) -> usize
     requires { 2 * (at + length (only_if wanted p)) ≤ length out.old }
     ensures { Wrote out.old out.new at result (only_if wanted p) }
