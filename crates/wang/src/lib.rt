@@ -20,7 +20,7 @@ fn second_difference_magnitude(v: Vec2) -> f32
     ensures { result ≡ bend v }
 {
     if v.is_nan() {
-        return 0.0 / 0.0;
+        return f32::NAN;
     }
     v.abs().max_element() * 1.41421356
 }

@@ -103,7 +103,7 @@ fn write_segment(out: &mut [f32], at: usize, tolerance: f32, w: Spot, s: Segment
 fn mark(verbs: &[u8]) -> u8
     ensures { result ≡ last_mark verbs.now }
 {
-    u8::from(matches!(verbs.last(), Some(4..)))
+    u8::from(matches!(verbs.last(), Some(path::CLOSE..)))
 }
 
 // Notes where a polyline ends, if one does, with its mark, and says where the next note goes. The last verb of its subpath is read just for this: by a flag that

@@ -1,14 +1,13 @@
 use mathlib.Core.Path.{◌≡◌, refl, sym, ◌∙◌}
-use lib.Ieee.{nan, div, of_bits}
-use Rattle.float.specs.Arith.{f0, over}
+use lib.Ieee.{nan, binary32, of_bits}
 use Rattle.curve.specs.Count.{bend}
 use Rattle.wang.proofs.second_difference_magnitude.Goals as goal
 
--- the code's NaN is the definition's
-quotient : over f0 f0 ≡ nan
-unfolding div of_bits
-quotient = refl
+-- the pattern of the code's NaN
+not_a_number : of_bits binary32 0x7fc0_0000 ≡ nan
+unfolding of_bits
+not_a_number = refl
 
 pub returns-then-is_nan : goal.returns-then-is_nan
 unfolding bend
-returns-then-is_nan c = rw (quotient, sym c.is_nan.ensures ∙ c.if-is_nan.true)
+returns-then-is_nan c = rw (not_a_number, sym c.is_nan.ensures ∙ c.if-is_nan.true)
