@@ -5,10 +5,10 @@ ghost use Rattle.std.specs.Prelude.{◌≡◌, ℕ, Bool, false, ◌^◌, ◌<�
 ghost use Rattle.vec2.specs.declared.Vec2.{Vec2};
 ghost use Rattle.events.specs.declared.Event.{Event};
 ghost use Rattle.strokes.specs.Pen.{Laws};
-ghost use Rattle.strokes.specs.Count.{tally_stroke, tally_cut, Count, count_event, count_begin, is_over, Counts, CountsBegin};
+ghost use Rattle.strokes.specs.Count.{tally_stroke, tally_lift, Count, count_event, count_begin, is_over, Counts, CountsBegin};
 ghost use Rattle.strokes.proofs.Counts.{count_laws};
 
-use events::{Leg, Pos};
+use events::Event;
 use pen::Pen;
 use strokes::Tip;
 use vec2::Vec2;
@@ -36,6 +36,17 @@ impl Counting {
             ..self
         }
     }
+
+    // Nothing more, and the pen is up.
+    fn lift(self) -> Self
+        ensures { (result.tip ≡ tally_lift self.tip) × (result.cap ≡ self.cap) }
+    {
+        let tip = Tip {
+            at: self.tip.at,
+            down: false,
+        };
+        Counting { tip, ..self }
+    }
 }
 
 impl Pen for Counting {
@@ -53,32 +64,16 @@ impl Pen for Counting {
 
     ghost begins = { CountsBegin };
 
-    fn cut(self, _g: Leg, p: Pos, _t: f32, _verbs: &mut [u8], _floats: &mut [f32]) -> Self {
-        if p.drawing {
-            return self.stroke(false);
+    fn tell(self, e: Event, _verbs: &mut [u8], _floats: &mut [f32]) -> Self {
+        match e {
+            Event::Nothing | Event::Pass(_) => self.lift(),
+            Event::Cut(..) => self.stroke(false),
+            Event::Reach(..) => self.stroke(true),
         }
-        self.lift()
     }
 
-    fn rest(self, _g: Leg, p: Pos, _t: f32, _verbs: &mut [u8], _floats: &mut [f32]) -> Self {
-        if p.drawing {
-            return self.stroke(true);
-        }
+    fn begin(self, _a: Vec2, _verbs: &mut [u8], _floats: &mut [f32]) -> Self {
         self.lift()
-    }
-
-    fn begin(self, _a: Vec2, _drawing: bool, _verbs: &mut [u8], _floats: &mut [f32]) -> Self {
-        self.lift()
-    }
-
-    fn lift(self) -> Self
-        ensures { (result.tip ≡ tally_cut false self.tip) × (result.cap ≡ self.cap) }
-    {
-        let tip = Tip {
-            at: self.tip.at,
-            down: false,
-        };
-        Counting { tip, ..self }
     }
 
     fn is_full(self) -> bool {

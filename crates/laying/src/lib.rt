@@ -8,7 +8,7 @@ ghost use Rattle.strokes.specs.Pen.{Laws};
 ghost use Rattle.strokes.specs.Lay.{Sheet, sheet, out, lay_verb, stroke, lay_event, lay_begin, Lays, LaysBegin, never, Room};
 ghost use Rattle.strokes.proofs.Lays.{lay_laws};
 
-use events::{Event, Leg, Pos};
+use events::Event;
 use pen::Pen;
 use strokes::Tip;
 use vec2::Vec2;
@@ -41,31 +41,6 @@ fn lay_stroke(verbs: &mut [u8], floats: &mut [f32], tip: Tip, a: Vec2, z: Vec2) 
     lay(verbs, floats, next, 1, z)
 }
 
-// Lays what an event draws. The tip is made anew from its fields in each arm: a copy of the whole struct would go through memory.
-fn put(verbs: &mut [u8], floats: &mut [f32], tip: Tip, e: Event) -> Tip
-    requires { Lays (sheet verbs.old floats.old tip) e }
-    ensures { sheet verbs.new floats.new result ≡ lay_event (sheet verbs.old floats.old tip) e }
-{
-    match e {
-        Event::Nothing => Tip {
-            at: tip.at,
-            down: false,
-        },
-        Event::Cut(a, z) => {
-            let at = lay_stroke(verbs, floats, tip, a, z);
-            Tip { at, down: false }
-        }
-        Event::Reach(a, c) => {
-            let at = lay_stroke(verbs, floats, tip, a, c);
-            Tip { at, down: true }
-        }
-        Event::Pass(_) => Tip {
-            at: tip.at,
-            down: false,
-        },
-    }
-}
-
 impl Pen for Laying {
     ghost State = { Sheet };
 
@@ -81,34 +56,30 @@ impl Pen for Laying {
 
     ghost begins = { LaysBegin };
 
-    fn cut(self, g: Leg, p: Pos, t: f32, verbs: &mut [u8], floats: &mut [f32]) -> Self {
-        let e = legs::inside(g, p, t);
-        let tip = put(verbs, floats, self.tip, e);
+    // The tip is made anew from its fields in each arm: a copy of the whole struct would go through memory.
+    fn tell(self, e: Event, verbs: &mut [u8], floats: &mut [f32]) -> Self {
+        let tip = match e {
+            Event::Nothing | Event::Pass(_) => Tip {
+                at: self.tip.at,
+                down: false,
+            },
+            Event::Cut(a, z) => Tip {
+                at: lay_stroke(verbs, floats, self.tip, a, z),
+                down: false,
+            },
+            Event::Reach(a, c) => Tip {
+                at: lay_stroke(verbs, floats, self.tip, a, c),
+                down: true,
+            },
+        };
         Laying { tip }
     }
 
-    fn rest(self, g: Leg, p: Pos, t: f32, verbs: &mut [u8], floats: &mut [f32]) -> Self {
-        let e = legs::resting(g, p, t);
-        let tip = put(verbs, floats, self.tip, e);
-        Laying { tip }
-    }
-
-    // A drawn interval begins by a move.
-    fn begin(self, a: Vec2, drawing: bool, verbs: &mut [u8], floats: &mut [f32]) -> Self {
-        if drawing {
-            let at = lay(verbs, floats, self.tip.at, 0, a);
-            let tip = Tip { at, down: true };
-            return Laying { tip };
-        }
-        self.lift()
-    }
-
-    fn lift(self) -> Self
-        ensures { (result.tip.at ≡ self.tip.at) × (result.tip.down ≡ false) }
-    {
+    // A dash begins by a move.
+    fn begin(self, a: Vec2, verbs: &mut [u8], floats: &mut [f32]) -> Self {
         let tip = Tip {
-            at: self.tip.at,
-            down: false,
+            at: lay(verbs, floats, self.tip.at, 0, a),
+            down: true,
         };
         Laying { tip }
     }

@@ -76,7 +76,7 @@ module _ (cs : List Float) (start : Pos) (fs : List Float) where
     pub ordered : Ordered (length fs) from es
     pub inside : 2 * from ≤ length fs
 
-  module _ {S : Type 0} {told : S → Event → S} {begun : S → Vec2 → Bool → S} {full : S → Bool} {takes : S → Event → Type 0} {begins : S → Vec2 → Bool → Type 0}
+  module _ {S : Type 0} {told : S → Event → S} {begun : S → Vec2 → S} {full : S → Bool} {takes : S → Event → Type 0} {begins : S → Vec2 → Type 0}
       (laws : Laws told begun full takes begins) {ends : List ℕ} {s₀ : S} (from j : ℕ) (s : S) (h : j < length ends) (i : Polylines told full takes ends s₀ from (drop j ends) s) where
     abbrev end : ℕ
     end = get_or ends j 0

@@ -7,12 +7,12 @@ ghost use Rattle.vec2.specs.declared.Vec2.{Vec2};
 ghost use Rattle.vec2.specs.Points.{points_in};
 ghost use Rattle.events.specs.declared.Event.{Event};
 ghost use Rattle.events.specs.declared.Event.TheVariants.{Nothing};
-ghost use Rattle.events.specs.Walk.{nothing_left, turned, place, cut_from, passed, is_walked, inside, resting, walk_polyline};
+ghost use Rattle.events.specs.Walk.{nothing_left, turned, place, cut_from, passed, is_walked, walk_polyline};
 ghost use Rattle.strokes.specs.Lengths.{KeptLengths};
-ghost use Rattle.strokes.specs.Pen.{told_all, TakesAll, Unless, Led, Laws};
+ghost use Rattle.strokes.specs.Pen.{told_all, TakesAll, Unless, Led, begun_by, BeginsBy, Laws};
 
 use cycle::Start;
-use events::{Leg, Pos};
+use events::{Event, Leg, Pos};
 use vec2::Vec2;
 
 // What a walk goes by: it counts what the walk's events draw, or lays it into the two dash buffers; one that counts is lent empty ones. It is handed on by
@@ -23,10 +23,10 @@ pub trait Pen: Copy {
 
     ghost on: { Self → List ℕ → List Float → State };
 
-    // what an event does to it, and where an interval ended where a leg begins, at a point, what beginning the next one does
+    // what an event does to it, and what beginning a drawn interval does, at a point, behind an interval that ended there
     ghost told: { State → Event → State };
 
-    ghost begun: { State → Vec2 → Bool → State };
+    ghost begun: { State → Vec2 → State };
 
     // more is told than there is room for: the walk stops
     ghost full: { State → Bool };
@@ -34,26 +34,16 @@ pub trait Pen: Copy {
     // the room that it asks for
     ghost takes: { State → Event → Type 0 };
 
-    ghost begins: { State → Vec2 → Bool → Type 0 };
+    ghost begins: { State → Vec2 → Type 0 };
 
-    // An interval ends inside the leg, at t.
-    fn cut(self, g: Leg, p: Pos, t: f32, verbs: &mut [u8], floats: &mut [f32]) -> Self
-        requires { takes (on self verbs.old floats.old) (inside g p t) }
-        ensures { on result verbs.new floats.new ≡ told (on self verbs.old floats.old) (inside g p t) };
+    fn tell(self, e: Event, verbs: &mut [u8], floats: &mut [f32]) -> Self
+        requires { takes (on self verbs.old floats.old) e }
+        ensures { on result verbs.new floats.new ≡ told (on self verbs.old floats.old) e };
 
-    // The rest of the leg, from t on, lies inside the interval.
-    fn rest(self, g: Leg, p: Pos, t: f32, verbs: &mut [u8], floats: &mut [f32]) -> Self
-        requires { takes (on self verbs.old floats.old) (resting g p t) }
-        ensures { on result verbs.new floats.new ≡ told (on self verbs.old floats.old) (resting g p t) };
-
-    // An interval ended where a leg begins, at a, and the next one begins.
-    fn begin(self, a: Vec2, drawing: bool, verbs: &mut [u8], floats: &mut [f32]) -> Self
-        requires { begins (on self verbs.old floats.old) a drawing }
-        ensures { on result verbs.new floats.new ≡ begun (on self verbs.old floats.old) a drawing };
-
-    // Nothing is drawn, and the pen is up.
-    fn lift(self) -> Self
-        ensures { (vs : List ℕ) (fs : List Float) → on result vs fs ≡ told (on self vs fs) Nothing };
+    // An interval ended where a leg begins, at a, and the next one, which is drawn, begins.
+    fn begin(self, a: Vec2, verbs: &mut [u8], floats: &mut [f32]) -> Self
+        requires { begins (on self verbs.old floats.old) a }
+        ensures { on result verbs.new floats.new ≡ begun (on self verbs.old floats.old) a };
 
     fn is_full(self) -> bool
         ensures { (vs : List ℕ) (fs : List Float) → result ≡ full (on self vs fs) };
@@ -89,14 +79,14 @@ fn walk_leg<P: Pen>(
         if next <= t {
             break;
         }
-        pen = pen.cut(g, p, next, verbs, floats);
+        pen = pen.tell(legs::inside(g, p, next), verbs, floats);
         if pen.is_full() {
             return Walked { pos: p, pen };
         }
         p = cycle::next_interval(cycle, p);
         t = next;
     }
-    let pen = pen.rest(g, p, t, verbs, floats);
+    let pen = pen.tell(legs::resting(g, p, t), verbs, floats);
     let pos = legs::rested_at(g, p, t);
     Walked { pos, pen }
 }
@@ -111,15 +101,20 @@ fn turn<P: Pen>(
     floats: &mut [f32],
 ) -> Walked<P>
     requires { (w.pos.index < length cycle.now)
-        × (nothing_left w.pos ≡ true → P.begins (P.on w.pen verbs.old floats.old) a (turned cycle.now w.pos).drawing) }
+        × (nothing_left w.pos ≡ true → BeginsBy P.takes P.begins (P.on w.pen verbs.old floats.old) a (turned cycle.now w.pos).drawing) }
     ensures turned { (result.pos ≡ cond (nothing_left w.pos) (turned cycle.now w.pos) w.pos) × (result.pos.index < length cycle.now) }
     ensures begun { P.on result.pen verbs.new floats.new
-        ≡ cond (nothing_left w.pos) (P.begun (P.on w.pen verbs.old floats.old) a (turned cycle.now w.pos).drawing) (P.on w.pen verbs.old floats.old) }
+        ≡ cond (nothing_left w.pos) (begun_by P.told P.begun (P.on w.pen verbs.old floats.old) a (turned cycle.now w.pos).drawing)
+        (P.on w.pen verbs.old floats.old) }
 {
     let p = w.pos;
     if cycle::nothing_left(p) {
         let pos = cycle::next_interval(cycle, p);
-        let pen = w.pen.begin(a, pos.drawing, verbs, floats);
+        let pen = if pos.drawing {
+            w.pen.begin(a, verbs, floats)
+        } else {
+            w.pen.tell(Event::Nothing, verbs, floats)
+        };
         return Walked { pos, pen };
     }
     let pos = Pos {
@@ -167,7 +162,7 @@ pub fn walk_polyline<P: Pen>(
 {
     let mut w = Walked {
         pos: start.pos,
-        pen: pen.lift(),
+        pen: pen.tell(Event::Nothing, verbs, floats),
     };
     for k in 1..points.len() / 2 {
         let g = legs::leg_to(points, lengths, k);

@@ -45,11 +45,11 @@ event_grows k (Cut a z) = omega arith
 event_grows k (Reach a c) = omega arith
 event_grows k (Pass c) = omega arith
 
-begun_so : (k : Count) (a : Vec2) (e : Event) → count_event (count_begin k a (draws e)) e ≡ count_event (count_event k Nothing) (begun_at a e)
-begun_so k a Nothing = refl
-begun_so k a (Cut b z) = refl
-begun_so k a (Reach b c) = refl
-begun_so k a (Pass c) = refl
+begun_so : (k : Count) (a : Vec2) (e : Event) → draws e ≡ true → count_event (count_begin k a) e ≡ count_event (count_event k Nothing) (begun_at a e)
+begun_so k a Nothing h = refl
+begun_so k a (Cut b z) h = refl
+begun_so k a (Reach b c) h = refl
+begun_so k a (Pass c) h = refl
 
 pub count_laws : Laws count_event count_begin is_over Counts CountsBegin
 count_laws =
@@ -57,7 +57,7 @@ count_laws =
       stays = λ k e h. lt-ltb k.cap (tally_event k.tip e).at (omega (arith, ltb-true _ _ h, event_grows k.tip e));
       lifted = λ k. refl;
       begun_so = begun_so;
-      begins_so = λ k a e t. (tt, t);
+      begins_so = λ k a e h t. (tt, t);
     }
 
 pub counts_all : (k : Count) (es : List Event) → k.cap < 2 ^ 61 → k.tip.at ≤ k.cap → TakesAll count_event is_over Counts k es

@@ -3,7 +3,7 @@ use mathlib.Core.Path.{◌≡◌, refl, sym, ◌∙◌, ap, subst}
 use Prim.Native.Nat.{ℕ, suc, ◌+◌, ◌*◌}
 use native.Mathlib.Omega.{arith}
 use native.Mathlib.Nat.{add-zero}
-use mathlib.Core.Bool.{Bool, true, false}
+use mathlib.Core.Bool.{Bool, true, false, true≢false}
 use mathlib.Core.List.{List, [], ◌∷◌, ◌++◌, append_assoc}
 use lib.ListN.{length, length-append, length-set}
 use lib.Ieee.{Float}
@@ -115,18 +115,18 @@ event_long s (Cut a z) = stroke_long s.down s.page a z
 event_long s (Reach a c) = stroke_long s.down s.page a c
 event_long s (Pass c) = record { verbs = refl; floats = refl }
 
-begun_so : (s : Sheet) (a : Vec2) (e : Event) → lay_event (lay_begin s a (draws e)) e ≡ lay_event (lay_event s Nothing) (begun_at a e)
-begun_so s a Nothing = refl
-begun_so s a (Cut b z) = refl
-begun_so s a (Reach b c) = refl
-begun_so s a (Pass c) = refl
+begun_so : (s : Sheet) (a : Vec2) (e : Event) → draws e ≡ true → lay_event (lay_begin s a) e ≡ lay_event (lay_event s Nothing) (begun_at a e)
+begun_so s a Nothing h = absurd (true≢false (sym h))
+begun_so s a (Cut b z) h = refl
+begun_so s a (Reach b c) h = refl
+begun_so s a (Pass c) h = absurd (true≢false (sym h))
 
 -- a move and then a line have the room that both have
-begins_so : (s : Sheet) (a : Vec2) (e : Event) → Lays (lay_event s Nothing) (begun_at a e) → LaysBegin s a (draws e) × Lays (lay_begin s a (draws e)) e
-begins_so s a Nothing t = (t, t)
-begins_so s a (Cut b z) t = let l = verb_long s.page 0 a in ((omega (arith, t.0), omega (arith, t.1)), rw (l.verbs, l.floats) t)
-begins_so s a (Reach b c) t = let l = verb_long s.page 0 a in ((omega (arith, t.0), omega (arith, t.1)), rw (l.verbs, l.floats) t)
-begins_so s a (Pass c) t = (t, t)
+begins_so : (s : Sheet) (a : Vec2) (e : Event) → draws e ≡ true → Lays (lay_event s Nothing) (begun_at a e) → LaysBegin s a × Lays (lay_begin s a) e
+begins_so s a Nothing h t = absurd (true≢false (sym h))
+begins_so s a (Cut b z) h t = let l = verb_long s.page 0 a in ((omega (arith, t.0), omega (arith, t.1)), rw (l.verbs, l.floats) t)
+begins_so s a (Reach b c) h t = let l = verb_long s.page 0 a in ((omega (arith, t.0), omega (arith, t.1)), rw (l.verbs, l.floats) t)
+begins_so s a (Pass c) h t = absurd (true≢false (sym h))
 
 pub lay_laws : Laws lay_event lay_begin never Lays LaysBegin
 lay_laws = record { stays = λ s e h. h; lifted = λ s. refl; begun_so = begun_so; begins_so = begins_so }

@@ -20,7 +20,7 @@ use Rattle.events.specs.declared.Leg.{Leg}
 use Rattle.events.specs.declared.Event.{Event}
 use Rattle.events.specs.declared.Event.TheVariants.{Nothing, Cut, Reach, Pass}
 use Rattle.events.specs.Walk.{inside, resting, rested, goes, onward, tells, Place, place, Told, nothing_left, cut_from, turned, beginning_at, cut_leg, passed, is_walked, leg_of, walk_from, walk_polyline}
-use Rattle.strokes.specs.Pen.{told_all, TakesAll, Unless, Led, draws, begun_at, Laws}
+use Rattle.strokes.specs.Pen.{told_all, TakesAll, Unless, Led, draws, begun_at, begun_by, BeginsBy, Laws}
 use Rattle.events.proofs.Turns.{cut_stop, cut_step}
 
 -- ---- a leg's first event
@@ -65,6 +65,13 @@ begins_with a (Cut b z) es = refl
 begins_with a (Reach b c) es = refl
 begins_with a (Pass c) es = refl
 
+-- where nothing is drawn nothing begins
+undrawn : (a : Vec2) (e : Event) → draws e ≡ false → e ≡ begun_at a e
+undrawn a Nothing h = refl
+undrawn a (Cut b z) h = absurd (true≢false h)
+undrawn a (Reach b c) h = absurd (true≢false h)
+undrawn a (Pass c) h = refl
+
 -- ---- a leg that is walked
 
 pub did : (b : Bool) (cs : List Float) (g : Leg) (p : Pos) → b ≡ true → cut_leg (nothing_left p) cs g p ≡ passed b cs g p
@@ -102,7 +109,7 @@ module _ {S : Type 0} (told : S → Event → S) (full : S → Bool) (takes : S 
     pub free : full s ≡ false
     pub indexed : p.index < length cs
 
-module _ {S : Type 0} {told : S → Event → S} {begun : S → Vec2 → Bool → S} {full : S → Bool} {takes : S → Event → Type 0} {begins : S → Vec2 → Bool → Type 0}
+module _ {S : Type 0} {told : S → Event → S} {begun : S → Vec2 → S} {full : S → Bool} {takes : S → Event → Type 0} {begins : S → Vec2 → Type 0}
     (laws : Laws told begun full takes begins) where
   told_append : (s : S) (es fs : List Event) → told_all told s (es ++ fs) ≡ told_all told (told_all told s es) fs
   told_append s [] fs = refl
@@ -207,14 +214,18 @@ module _ {S : Type 0} {told : S → Event → S} {begun : S → Vec2 → Bool �
     next = place (turned cs p) f0
 
     abbrev first : S
-    first = begun s g.from (turned cs p).drawing
+    first = begun_by told begun s g.from (turned cs p).drawing
 
     module _ (h : Head (turned cs p).drawing (cut_from cs g next).events) where
       all_is : beginning_at g.from (cut_from cs g next).events ≡ begun_at g.from h.first ∷ h.rest
       all_is = ap (beginning_at g.from) h.is ∙ begins_with g.from h.first h.rest
 
       begun_is : told first h.first ≡ told (told s Nothing) (begun_at g.from h.first)
-      begun_is = ap (λ (d : Bool). told (begun s g.from d) h.first) h.drawn ∙ laws.begun_so s g.from h.first
+      begun_is = go (turned cs p).drawing h.drawn
+        where
+          go : (d : Bool) → d ≡ draws h.first → told (begun_by told begun s g.from d) h.first ≡ told (told s Nothing) (begun_at g.from h.first)
+          go true e = laws.begun_so s g.from h.first (sym e)
+          go false e = ap (told (told s Nothing)) (undrawn g.from h.first (sym e))
 
       same_as : told_all told first (cut_from cs g next).events ≡ told_all told s (cut_leg true cs g p).events
       same_as =
@@ -226,8 +237,12 @@ module _ {S : Type 0} {told : S → Event → S} {begun : S → Vec2 → Bool �
         left : TakesAll told full takes (told s Nothing) (begun_at g.from h.first ∷ h.rest)
         left = subst (TakesAll told full takes (told s Nothing)) all_is (t.1 (laws.lifted s ∙ free))
 
-        pair : begins s g.from (turned cs p).drawing × takes first h.first
-        pair = subst (λ (d : Bool). begins s g.from d × takes (begun s g.from d) h.first) (sym h.drawn) (laws.begins_so s g.from h.first left.0)
+        pair : BeginsBy takes begins s g.from (turned cs p).drawing × takes first h.first
+        pair = go (turned cs p).drawing h.drawn
+          where
+            go : (d : Bool) → d ≡ draws h.first → BeginsBy takes begins s g.from d × takes (begun_by told begun s g.from d) h.first
+            go true e = laws.begins_so s g.from h.first (sym e) left.0
+            go false e = (t.0, subst (takes (told s Nothing)) (sym (undrawn g.from h.first (sym e))) left.0)
 
         taken_as : TakesAll told full takes first (cut_from cs g next).events
         taken_as = subst (TakesAll told full takes first) (sym h.is) (pair.1, λ n. subst (λ (z : S). TakesAll told full takes z h.rest) (sym begun_is) (left.1 (subst (λ (z : S). full z ≡ false) begun_is n)))
@@ -236,7 +251,7 @@ module _ {S : Type 0} {told : S → Event → S} {begun : S → Vec2 → Bool �
     begun_head = head cs g next (of_bits-fits binary32 0)
 
     module _ (free : full s ≡ false) where
-      pub turn_begins : (b : Bool) → TakesAll told full takes s (cut_leg b cs g p).events → b ≡ true → begins s g.from (turned cs p).drawing
+      pub turn_begins : (b : Bool) → TakesAll told full takes s (cut_leg b cs g p).events → b ≡ true → BeginsBy takes begins s g.from (turned cs p).drawing
       turn_begins true t h = (pair begun_head free t).0
       turn_begins false t h = absurd (true≢false (sym h))
 

@@ -10,19 +10,15 @@ use Rattle.strokes.specs.Pen.{told_all}
 abbrev pub tally_stroke : Tip → Bool → Tip
 tally_stroke k down = record { at = k.at + cond k.down 1 2; down = down }
 
--- an interval ends, drawn or not, and leaves the pen up
-abbrev pub tally_cut : Bool → Tip → Tip
-tally_cut drawing k = cond drawing (tally_stroke k false) (record { at = k.at; down = false })
-
--- a corner is reached, drawing or not
-abbrev pub tally_rest : Bool → Tip → Tip
-tally_rest drawing k = cond drawing (tally_stroke k true) (record { at = k.at; down = false })
+-- nothing more, and the pen is up
+abbrev pub tally_lift : Tip → Tip
+tally_lift k = record { at = k.at; down = false }
 
 abbrev pub tally_event : Tip → Event → Tip
-tally_event k Nothing = tally_cut false k
-tally_event k (Cut a z) = tally_cut true k
-tally_event k (Reach a c) = tally_rest true k
-tally_event k (Pass c) = tally_rest false k
+tally_event k Nothing = tally_lift k
+tally_event k (Cut a z) = tally_stroke k false
+tally_event k (Reach a c) = tally_stroke k true
+tally_event k (Pass c) = tally_lift k
 
 abbrev pub tally : Tip → List Event → Tip
 tally k es = told_all tally_event k es
@@ -38,8 +34,8 @@ abbrev pub count_event : Count → Event → Count
 count_event k e = record { tip = tally_event k.tip e; cap = k.cap }
 
 -- an interval that ended where a leg begins put the pen up; where the next one begins does not count (W6)
-abbrev pub count_begin : Count → Vec2 → Bool → Count
-count_begin k a drawing = record { tip = tally_cut false k.tip; cap = k.cap }
+abbrev pub count_begin : Count → Vec2 → Count
+count_begin k a = record { tip = tally_lift k.tip; cap = k.cap }
 
 abbrev pub is_over : Count → Bool
 is_over k = ltb k.cap k.tip.at
@@ -48,5 +44,5 @@ is_over k = ltb k.cap k.tip.at
 abbrev pub Counts : Count → Event → Type 0
 Counts k e = k.tip.at < 2 ^ 62
 
-abbrev pub CountsBegin : Count → Vec2 → Bool → Type 0
-CountsBegin k a drawing = Unit
+abbrev pub CountsBegin : Count → Vec2 → Type 0
+CountsBegin k a = Unit

@@ -67,17 +67,16 @@ lay_event s (Pass c) = record { page = s.page; down = false }
 abbrev pub lay_all : Sheet → List Event → Sheet
 lay_all s es = told_all lay_event s es
 
--- an interval begins where a leg begins, at a (W6): a drawn one by a move
-abbrev pub lay_begin : Sheet → Vec2 → Bool → Sheet
-lay_begin s a false = record { page = s.page; down = false }
-lay_begin s a true = record { page = lay_verb s.page 0 a; down = true }
+-- a drawn interval begins where a leg begins, at a (W6): by a move
+abbrev pub lay_begin : Sheet → Vec2 → Sheet
+lay_begin s a = record { page = lay_verb s.page 0 a; down = true }
 
 -- the room that each asks for
 abbrev pub Lays : Sheet → Event → Type 0
 Lays s e = Room (length s.page.verbs) (length s.page.floats) (lay_event s e).page
 
-abbrev pub LaysBegin : Sheet → Vec2 → Bool → Type 0
-LaysBegin s a drawing = Room (length s.page.verbs) (length s.page.floats) (lay_begin s a drawing).page
+abbrev pub LaysBegin : Sheet → Vec2 → Type 0
+LaysBegin s a = Room (length s.page.verbs) (length s.page.floats) (lay_begin s a).page
 
 -- laying goes on to the end
 abbrev pub never : Sheet → Bool

@@ -1,6 +1,6 @@
 -- What a walk's events do to a pen, which counts what they draw or lays it, and may be full before the walk ends. `told` is what one event does, `takes` what
--- the pen asks of one; `begun` and `begins` the same of an interval that ended where a leg begins, where the Bool says whether the next one is drawn. Definitions only.
-use Rattle.std.specs.Prelude.{◌≡◌, ℕ, ◌<◌, Bool, true, false, List, [], ◌∷◌, ◌++◌, Float}
+-- the pen asks of one; `begun` and `begins` the same of a drawn interval that begins where a leg begins, behind one that ended there. Definitions only.
+use Rattle.std.specs.Prelude.{◌≡◌, ℕ, ◌<◌, Bool, true, false, cond, List, [], ◌∷◌, ◌++◌, Float}
 use Rattle.vec2.specs.declared.Vec2.{Vec2}
 use Rattle.events.specs.declared.Pos.{Pos}
 use Rattle.events.specs.declared.Event.{Event}
@@ -42,12 +42,20 @@ begun_at a (Cut b z) = Cut a z
 begun_at a (Reach b c) = Reach a c
 begun_at a (Pass c) = Pass c
 
--- a pen that is full stays so, `Nothing` fills none, and an interval is begun as `Nothing` and a first event from a do it
-pub record Laws {S : Type 0} (told : S → Event → S) (begun : S → Vec2 → Bool → S) (full : S → Bool) (takes : S → Event → Type 0) (begins : S → Vec2 → Bool → Type 0) : Type 0 where
+-- a pen that is full stays so, `Nothing` fills none, and a drawn interval is begun as `Nothing` and a first event from a do it
+pub record Laws {S : Type 0} (told : S → Event → S) (begun : S → Vec2 → S) (full : S → Bool) (takes : S → Event → Type 0) (begins : S → Vec2 → Type 0) : Type 0 where
   pub stays : (s : S) (e : Event) → full s ≡ true → full (told s e) ≡ true
   pub lifted : (s : S) → full (told s Nothing) ≡ full s
-  pub begun_so : (s : S) (a : Vec2) (e : Event) → told (begun s a (draws e)) e ≡ told (told s Nothing) (begun_at a e)
-  pub begins_so : (s : S) (a : Vec2) (e : Event) → takes (told s Nothing) (begun_at a e) → begins s a (draws e) × takes (begun s a (draws e)) e
+  pub begun_so : (s : S) (a : Vec2) (e : Event) → draws e ≡ true → told (begun s a) e ≡ told (told s Nothing) (begun_at a e)
+  pub begins_so : (s : S) (a : Vec2) (e : Event) → draws e ≡ true → takes (told s Nothing) (begun_at a e) → begins s a × takes (begun s a) e
+
+-- an interval ended where a leg begins, at a, and the next one begins, drawn or not
+abbrev pub begun_by : {S : Type 0} → (S → Event → S) → (S → Vec2 → S) → S → Vec2 → Bool → S
+begun_by told begun s a drawn = cond drawn (begun s a) (told s Nothing)
+
+abbrev pub BeginsBy : {S : Type 0} → (S → Event → Type 0) → (S → Vec2 → Type 0) → S → Vec2 → Bool → Type 0
+BeginsBy takes begins s a true = begins s a
+BeginsBy takes begins s a false = takes s Nothing
 
 -- what the walk of all polylines tells: the pen is lifted before each
 abbrev pub all_events : List Float → Pos → List (List Vec2) → List Event

@@ -11,7 +11,7 @@ loop-k-init g c =
     let up = m.told (m.on a.pen a.verbs.now a.floats.now) Nothing in
     let free = g.met.P.Pen.laws.lifted (m.on a.pen a.verbs.now a.floats.now) ∙ c.requires.1 in
     let first = line_start g.met.P.Pen.laws a.start.cycle.now a.points.now a.start.pos up (c.requires.2.1 free) free a.start.indexed in
-    subst (λ (z : m.State). Line m.told m.full m.takes a.start.cycle.now a.points.now a.start.pos up 1 z a.start.pos) (sym (c.lift.ensures _ _)) first
+    subst (λ (z : m.State). Line m.told m.full m.takes a.start.cycle.now a.points.now a.start.pos up 1 z a.start.pos) (sym (c.tell.ensures)) first
 
 pub pass_leg-w-requires : goal.pass_leg-w-requires
 pass_leg-w-requires g c =
