@@ -54,37 +54,60 @@ pub fn rested_at(g: Leg, p: Pos, t: f32) -> Pos
     }
 }
 
+// The legs of a polyline, from each point to the next, and the lengths that are kept of the first of them.
+#[derive(Clone, Copy)]
+pub struct Legs<'a> {
+    pub points: &'a [f32],
+    pub lengths: &'a [f32],
+    pub ghost kept: { KeptLengths lengths.now points.now },
+}
+
+impl Iterator for Legs<'_> {
+    ghost use Rattle.std.specs.Iterator.{YieldsFirst, item_count};
+    ghost use Rattle.legs.specs.Legs.{left};
+
+    type Item = Leg;
+
+    ghost next_gives = { YieldsFirst left };
+
+    ghost remaining = { item_count left };
+
+    // The length of a leg is the one that is kept, or worked out where none is.
+    fn next(&mut self) -> Option<Leg> {
+        if self.points.len() < 4 {
+            return None;
+        }
+        let from = path::point_at(self.points, 0);
+        let to = path::point_at(self.points, 1);
+        let way = to - from;
+        let (length, lengths) = match self.lengths {
+            [kept, rest @ ..] => (*kept, rest),
+            none => (way.length(), none),
+        };
+        self.points = &self.points[2..];
+        self.lengths = lengths;
+        Some(Leg {
+            from,
+            way,
+            to,
+            length,
+        })
+    }
+}
+
 // Works out the lengths of the legs from each point to the next, as many as `kept` takes.
 pub fn keep_lengths(points: &[f32], kept: &mut [f32])
     ensures { KeptLengths kept.new points.now }
 {
-    for (k, length) in kept.iter_mut().enumerate() {
-        if points.len() / 2 <= k + 1 {
-            return;
-        }
-        let a = path::point_at(points, k);
-        let b = path::point_at(points, k + 1);
-        *length = (b - a).length();
-    }
-}
-
-// The leg that leads to point k. Its length is the one that is kept, or worked out where none is.
-pub fn leg_to(points: &[f32], lengths: &[f32], k: usize) -> Leg
-    requires { (0 < k) × (2 * k + 1 < length points.now) × KeptLengths lengths.now points.now }
-    ensures { result ≡ leg_of (point_at points.now (k - 1)) (point_at points.now k) }
-{
-    let from = path::point_at(points, k - 1);
-    let to = path::point_at(points, k);
-    let way = to - from;
-    let length = match lengths.get(k - 1) {
-        Some(kept) => *kept,
-        None => way.length(),
+    let mut legs = Legs {
+        points,
+        lengths: &[],
     };
-    Leg {
-        from,
-        way,
-        to,
-        length,
+    for length in kept.iter_mut() {
+        let Some(leg) = legs.next() else {
+            return;
+        };
+        *length = leg.length;
     }
 }
 

@@ -8,11 +8,11 @@ ghost use Rattle.vec2.specs.Points.{points_in};
 ghost use Rattle.events.specs.declared.Event.{Event};
 ghost use Rattle.events.specs.declared.Event.TheVariants.{Nothing};
 ghost use Rattle.events.specs.Walk.{nothing_left, turned, place, cut_from, passed, is_walked, walk_polyline};
-ghost use Rattle.strokes.specs.Lengths.{KeptLengths};
 ghost use Rattle.strokes.specs.Pen.{told_all, TakesAll, Unless, Led, begun_by, BeginsBy, Laws};
 
 use cycle::Start;
 use events::{Event, Leg, Pos};
+use legs::Legs;
 use vec2::Vec2;
 
 // What a walk goes by: it counts what the walk's events draw, or lays it into the two dash buffers; one that counts is lent empty ones. It is handed on by
@@ -148,24 +148,22 @@ fn pass_leg<P: Pen>(
 // Walks a polyline, with the pen up at first. It stops where the pen is full. It is a call of its own, so that the loop inside a segment has the registers.
 #[inline(never)]
 pub fn walk_polyline<P: Pen>(
-    points: &[f32],
-    lengths: &[f32],
+    legs: Legs<'_>,
     start: Start<'_>,
     pen: P,
     verbs: &mut [u8],
     floats: &mut [f32],
 ) -> P
-    requires { KeptLengths lengths.now points.now × (P.full (P.on pen verbs.old floats.old) ≡ false)
-        × TakesAll P.told P.full P.takes (P.on pen verbs.old floats.old) (Nothing ∷ walk_polyline start.cycle.now start.pos (points_in points.now)) }
-    ensures { Unless P.full (told_all P.told (P.on pen verbs.old floats.old) (Nothing ∷ walk_polyline start.entry.cycle.now start.entry.pos (points_in points.now)))
-        (P.on result verbs.new floats.new) }
+    requires { (P.full (P.on pen verbs.old floats.old) ≡ false)
+        × TakesAll P.told P.full P.takes (P.on pen verbs.old floats.old) (Nothing ∷ walk_polyline start.cycle.now start.pos (points_in legs.points.now)) }
+    ensures { Unless P.full (told_all P.told (P.on pen verbs.old floats.old)
+        (Nothing ∷ walk_polyline start.entry.cycle.now start.entry.pos (points_in legs.entry.points.now))) (P.on result verbs.new floats.new) }
 {
     let mut w = Walked {
         pos: start.pos,
         pen: pen.tell(Event::Nothing, verbs, floats),
     };
-    for k in 1..points.len() / 2 {
-        let g = legs::leg_to(points, lengths, k);
+    for g in legs {
         w = pass_leg(start.cycle, g, w, verbs, floats);
         if w.pen.is_full() {
             return w.pen;

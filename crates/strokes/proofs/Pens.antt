@@ -1,26 +1,22 @@
 -- The walk by any pen: what a leg's loop keeps, its turns, an interval that ended where the leg begins, and one leg behind another. Assumes nothing.
 use mathlib.Core.Path.{◌≡◌, refl, sym, ◌∙◌, ap, subst}
-use Prim.Native.Nat.{ℕ, ◌+◌, ◌-◌, ◌/◌, ◌≤◌, ◌<◌}
-use native.Mathlib.Omega.{arith}
+use Prim.Native.Nat.{◌<◌}
 use mathlib.Core.Bool.{Bool, true, false, cond, true≢false}
 use mathlib.Core.List.{List, [], ◌∷◌, ◌++◌}
-use lib.ListN.{length, drop, drop_of_length-le}
+use lib.ListN.{length}
 use lib.Dec.{T}
-use lib.Ieee.{Float, nan, binary32, fits}
+use lib.Ieee.{Float, binary32, fits}
 use lib.Ieee.Fits.{add-fits}
 use lib.Ieee.Bits.{of_bits-fits}
 use Rattle.float.specs.Arith.{plus, f0}
 use Rattle.vec2.specs.declared.Vec2.{Vec2}
-use Rattle.vec2.specs.Vec2.{vec}
-use Rattle.vec2.specs.Points.{points_in, point_at}
-use Rattle.vec2.proofs.Points.{length-points_in, points_in-at}
-use Rattle.vec2.proofs.Lists.{drop-next}
 use Rattle.events.specs.declared.Pos.{Pos}
 use Rattle.events.specs.declared.Leg.{Leg}
 use Rattle.events.specs.declared.Event.{Event}
 use Rattle.events.specs.declared.Event.TheVariants.{Nothing, Cut, Reach, Pass}
 use Rattle.events.specs.Walk.{inside, resting, rested, goes, onward, tells, Place, place, Told, nothing_left, cut_from, turned, beginning_at, cut_leg, passed, is_walked, leg_of, walk_from, walk_polyline}
 use Rattle.strokes.specs.Pen.{told_all, TakesAll, Unless, Led, draws, begun_at, begun_by, BeginsBy, Laws}
+use Rattle.strokes.specs.Lengths.{all_legs}
 use Rattle.events.proofs.Turns.{cut_stop, cut_step}
 
 -- ---- a leg's first event
@@ -89,9 +85,12 @@ full_is {full = full} {all = all} {r = r} u = go (full r) refl
 
 -- ---- what the loops keep
 
--- the legs from the one that leads to point k on
-abbrev pub legs_on : List Float → List Float → ℕ → Pos → List Event
-legs_on cs fs k p = walk_from cs (point_at fs (k - 1)) (drop k (points_in fs)) p
+-- one leg behind another
+abbrev pub walk_legs : List Float → List Leg → Pos → List Event
+walk_legs cs [] p = []
+walk_legs cs (g ∷ gs) p =
+    let c = passed (is_walked g) cs g p in
+    c.events ++ walk_legs cs gs c.pos
 
 module _ {S : Type 0} (told : S → Event → S) (full : S → Bool) (takes : S → Event → Type 0) (cs : List Float) where
   -- what is left to tell from q on, to the pen as it is, ends as what there was to tell from q₀ on, to the pen as it was
@@ -102,10 +101,10 @@ module _ {S : Type 0} (told : S → Event → S) (full : S → Bool) (takes : S 
     pub indexed : q.pos.index < length cs
     pub taken : TakesAll told full takes s (cut_from cs g q).events
 
-  -- the same of a polyline, where the next leg leads to point k
-  pub record Line (fs : List Float) (start : Pos) (s₀ : S) (k : ℕ) (s : S) (p : Pos) : Type 0 where
-    pub same : told_all told s (legs_on cs fs k p) ≡ told_all told s₀ (walk_polyline cs start (points_in fs))
-    pub taken : TakesAll told full takes s (legs_on cs fs k p)
+  -- the same of a polyline, where there was all to tell, and the legs gs are left
+  pub record Line (s₀ : S) (all : List Event) (gs : List Leg) (s : S) (p : Pos) : Type 0 where
+    pub same : told_all told s (walk_legs cs gs p) ≡ told_all told s₀ all
+    pub taken : TakesAll told full takes s (walk_legs cs gs p)
     pub free : full s ≡ false
     pub indexed : p.index < length cs
 
@@ -290,91 +289,54 @@ module _ {S : Type 0} {told : S → Event → S} {begun : S → Vec2 → S} {ful
   -- ---- a polyline
 
   module _ (cs : List Float) where
-    -- one leg
-    module _ (a b : Vec2) (ps : List Vec2) (s : S) (p : Pos) where
-      abbrev c : Told
-      c = passed (is_walked (leg_of a b)) cs (leg_of a b) p
+    legs_are : (ps : List Vec2) (p : Pos) → walk_legs cs (all_legs ps) p ≡ walk_polyline cs p ps
+    unfolding walk_from
+    legs_are [] p = refl
+    legs_are (a ∷ []) p = refl
+    legs_are (a ∷ b ∷ ps) p =
+        let c = passed (is_walked (leg_of a b)) cs (leg_of a b) p in
+        ap (λ (es : List Event). c.events ++ es) (legs_are (b ∷ ps) c.pos)
 
-      leg_is : walk_from cs a (b ∷ ps) p ≡ c.events ++ walk_from cs b ps c.pos
-      unfolding walk_from
-      leg_is = refl
+    pub line_start : (ps : List Vec2) (s : S) (p : Pos) → TakesAll told full takes s (walk_polyline cs p ps) → full s ≡ false → p.index < length cs →
+        Line told full takes cs s (walk_polyline cs p ps) (all_legs ps) s p
+    line_start ps s p t f h =
+        record {
+          same = ap (told_all told s) (legs_are ps p);
+          taken = subst (TakesAll told full takes s) (sym (legs_are ps p)) t;
+          free = f;
+          indexed = h;
+        }
 
-      leg_taken : TakesAll told full takes s (walk_from cs a (b ∷ ps) p) → TakesAll told full takes s c.events
-      leg_taken t = takes_first s c.events (walk_from cs b ps c.pos) (subst (TakesAll told full takes s) leg_is t)
+    module _ {s₀ : S} {all : List Event} {gs : List Leg} {s : S} {p : Pos} (i : Line told full takes cs s₀ all gs s p) where
+      pub line_end : gs ≡ [] → Unless full (told_all told s₀ all) s
+      line_end e = through (sym (ap (λ (l : List Leg). told_all told s (walk_legs cs l p)) e) ∙ i.same)
 
-      module _ (r : S) (q : Pos) (l : Led told full (length cs) s c r q) where
-        leg_over : full r ≡ true → full (told_all told s (walk_from cs a (b ∷ ps) p)) ≡ true
-        leg_over f = subst (λ (es : List Event). full (told_all told s es) ≡ true) (sym leg_is) (part_over s r c.events (walk_from cs b ps c.pos) l.led f)
+      module _ {g : Leg} {rest : List Leg} (e : gs ≡ g ∷ rest) where
+        abbrev c : Told
+        c = passed (is_walked g) cs g p
 
-        module _ (f : full r ≡ false) where
-          leg_on : told_all told r (walk_from cs b ps q) ≡ told_all told s (walk_from cs a (b ∷ ps) p)
-          leg_on =
-              ap (λ (z : Pos). told_all told r (walk_from cs b ps z)) (l.walked f)
-              ∙ part_on s r c.events (walk_from cs b ps c.pos) l.led f
-              ∙ sym (ap (told_all told s) leg_is)
+        takes_all : TakesAll told full takes s (c.events ++ walk_legs cs rest c.pos)
+        takes_all = subst (λ (l : List Leg). TakesAll told full takes s (walk_legs cs l p)) e i.taken
 
-          leg_left : TakesAll told full takes s (walk_from cs a (b ∷ ps) p) → TakesAll told full takes r (walk_from cs b ps q)
-          leg_left t =
-              subst (λ (z : Pos). TakesAll told full takes r (walk_from cs b ps z)) (sym (l.walked f))
-              (part_left s r c.events (walk_from cs b ps c.pos) l.led f (subst (TakesAll told full takes s) leg_is t))
+        tells_all : told_all told s (c.events ++ walk_legs cs rest c.pos) ≡ told_all told s₀ all
+        tells_all = sym (ap (λ (l : List Leg). told_all told s (walk_legs cs l p)) e) ∙ i.same
 
-    module _ (fs : List Float) where
-      walk_nil : (a : Vec2) (p : Pos) → walk_from cs a [] p ≡ []
-      unfolding walk_from
-      walk_nil a p = refl
+        pub line_taken : TakesAll told full takes s c.events
+        line_taken = takes_first s c.events (walk_legs cs rest c.pos) takes_all
 
-      start_is : (l : List Float) (p : Pos) → walk_from cs (point_at l (1 - 1)) (drop 1 (points_in l)) p ≡ walk_polyline cs p (points_in l)
-      start_is [] p = walk_nil _ p
-      start_is (x ∷ []) p = walk_nil _ p
-      start_is (x ∷ y ∷ l) p = refl
+        module _ (r : S) (q : Pos) (l : Led told full (length cs) s c r q) where
+          pub line_over : full r ≡ true → Unless full (told_all told s₀ all) r
+          line_over f =
+              record {
+                exact = λ n. absurd (true≢false (sym f ∙ n));
+                over = λ n. subst (λ (z : S). full z ≡ true) tells_all (part_over s r c.events (walk_legs cs rest c.pos) l.led f);
+              }
 
-      pub line_start : (start : Pos) (s : S) → TakesAll told full takes s (walk_polyline cs start (points_in fs)) → full s ≡ false → start.index < length cs → Line told full takes cs fs start s 1 s start
-      line_start start s t f h =
-          record {
-            same = ap (told_all told s) (start_is fs start);
-            taken = subst (TakesAll told full takes s) (sym (start_is fs start)) t;
-            free = f;
-            indexed = h;
-          }
-
-      module _ {start : Pos} {s₀ : S} (k : ℕ) (s : S) (p : Pos) (i : Line told full takes cs fs start s₀ k s p) where
-        module _ (h : k < length fs / 2) where
-          next_is : legs_on cs fs k p ≡ walk_from cs (point_at fs (k - 1)) (point_at fs k ∷ drop (k + 1) (points_in fs)) p
-          next_is =
-              ap (λ (l : List Vec2). walk_from cs (point_at fs (k - 1)) l p)
-              (drop-next (points_in fs) k (vec nan nan) (omega (arith, length-points_in fs)) ∙ ap (λ (z : Vec2). z ∷ drop (k + 1) (points_in fs)) (points_in-at fs k (omega arith)))
-
-          back_is : (q : Pos) → legs_on cs fs (k + 1) q ≡ walk_from cs (point_at fs k) (drop (k + 1) (points_in fs)) q
-          back_is q = let e : k + 1 - 1 ≡ k = omega arith in ap (λ (j : ℕ). walk_from cs (point_at fs j) (drop (k + 1) (points_in fs)) q) e
-
-          taken_on : TakesAll told full takes s (walk_from cs (point_at fs (k - 1)) (point_at fs k ∷ drop (k + 1) (points_in fs)) p)
-          taken_on = subst (TakesAll told full takes s) next_is i.taken
-
-          module _ (g : Leg) (e : g ≡ leg_of (point_at fs (k - 1)) (point_at fs k)) where
-            pub line_taken : TakesAll told full takes s (passed (is_walked g) cs g p).events
-            line_taken = subst (λ (z : Leg). TakesAll told full takes s (passed (is_walked z) cs z p).events) (sym e) (leg_taken _ _ _ s p taken_on)
-
-            module _ (r : S) (q : Pos) (l : Led told full (length cs) s (passed (is_walked g) cs g p) r q) where
-              led : Led told full (length cs) s (passed (is_walked (leg_of (point_at fs (k - 1)) (point_at fs k))) cs (leg_of (point_at fs (k - 1)) (point_at fs k)) p) r q
-              led = subst (λ (z : Leg). Led told full (length cs) s (passed (is_walked z) cs z p) r q) e l
-
-              pub line_over : full r ≡ true → Unless full (told_all told s₀ (walk_polyline cs start (points_in fs))) r
-              line_over f =
-                  record {
-                    exact = λ n. absurd (true≢false (sym f ∙ n));
-                    over = λ n. subst (λ (z : S). full z ≡ true) (sym (ap (told_all told s) next_is) ∙ i.same) (leg_over _ _ _ s p r q led f);
-                  }
-
-              pub line_on : full r ≡ false → Line told full takes cs fs start s₀ (k + 1) r q
-              line_on f =
-                  record {
-                    same = ap (told_all told r) (back_is q) ∙ leg_on _ _ _ s p r q led f ∙ sym (ap (told_all told s) next_is) ∙ i.same;
-                    taken = subst (TakesAll told full takes r) (sym (back_is q)) (leg_left _ _ _ s p r q led f taken_on);
-                    free = f;
-                    indexed = l.indexed;
-                  }
-
-        pub line_end : length fs / 2 ≤ k → Unless full (told_all told s₀ (walk_polyline cs start (points_in fs))) s
-        line_end h =
-            let none : drop k (points_in fs) ≡ [] = drop_of_length-le (points_in fs) (omega (arith, length-points_in fs)) in
-            through (sym (ap (told_all told s) (ap (λ (l : List Vec2). walk_from cs (point_at fs (k - 1)) l p) none ∙ walk_nil _ p)) ∙ i.same)
+          pub line_on : full r ≡ false → Line told full takes cs s₀ all rest r q
+          line_on f =
+              record {
+                same = ap (λ (z : Pos). told_all told r (walk_legs cs rest z)) (l.walked f) ∙ part_on s r c.events (walk_legs cs rest c.pos) l.led f ∙ tells_all;
+                taken = subst (λ (z : Pos). TakesAll told full takes r (walk_legs cs rest z)) (sym (l.walked f)) (part_left s r c.events (walk_legs cs rest c.pos) l.led f takes_all);
+                free = f;
+                indexed = l.indexed;
+              }

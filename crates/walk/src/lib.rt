@@ -20,6 +20,7 @@ ghost use Rattle.walk.specs.Laid.{LaidOrRefused};
 use counting::Counting;
 use cycle::Start;
 use laying::Laying;
+use legs::Legs;
 use outline::{Dashed, Outline};
 use path::{FillRule, Refusal};
 use pen::Pen;
@@ -67,9 +68,11 @@ fn walk_all<P: Pen>(
     let mut from = 0usize;
     for end in lines.ends {
         let end = *end;
-        let points = &lines.points[2 * from..2 * end];
-        let lengths = lines.lengths.get(from..).unwrap_or_default();
-        pen = pen::walk_polyline(points, lengths, start, pen, verbs, floats);
+        let legs = Legs {
+            points: &lines.points[2 * from..2 * end],
+            lengths: lines.lengths.get(from..).unwrap_or_default(),
+        };
+        pen = pen::walk_polyline(legs, start, pen, verbs, floats);
         if pen.is_full() {
             return pen;
         }

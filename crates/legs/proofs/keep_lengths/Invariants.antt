@@ -1,10 +1,15 @@
 -- `keep_lengths` meets its contract. Assumes nothing.
 use mathlib.Core.Path.{◌≡◌}
 use Prim.Native.Nat.{ℕ, ◌<◌}
-use lib.ListN.{get_or}
+use lib.ListN.{get_or, drop}
 use lib.Ieee.{nan}
-use Rattle.strokes.specs.Lengths.{length_at}
+use Rattle.vec2.specs.Points.{points_in}
+use Rattle.strokes.specs.Lengths.{all_legs, length_at}
+use Rattle.legs.specs.Legs.{left}
 use Rattle.legs.proofs.keep_lengths.Given as goal
 
-abbrev pub invariant-loop-k : goal.invariant-loop-k
-invariant-loop-k l = (m : ℕ) → m < l.k → get_or l.kept m nan ≡ length_at l.fn.points m
+abbrev pub invariant-loop-length : goal.invariant-loop-length
+invariant-loop-length l = record {
+  rest : drop l.length-index (all_legs (points_in l.fn.points)) ≡ left l.legs;
+  done : (m : ℕ) → m < l.length-index → get_or l.kept m nan ≡ length_at l.fn.points m;
+}
