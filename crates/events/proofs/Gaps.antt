@@ -20,7 +20,8 @@ use Rattle.events.specs.declared.Event.TheVariants.{Nothing, Cut, Reach, Pass}
 use Rattle.events.specs.Loop.{Trace, traced}
 use Rattle.events.specs.Zeros.{after, zero_at, above, first_above, next, ahead, BehindZeros, one_above, gaps_only}
 use Rattle.events.specs.Phase.{phase_goes, phase_next, start_of}
-use Rattle.events.specs.Walk.{Place, place, inside, resting, nothing_left, turned, goes, onward, tells, cut_from, beginning_at, cut_leg, passed, leg_of, is_walked, walk_from, walk_polyline, walk_all}
+use Rattle.events.specs.declared.Place.{Place}
+use Rattle.events.specs.Walk.{place, inside, resting, nothing_left, turned, goes, onward, tells, cut_from, beginning_at, cut_leg, passed, leg_of, is_walked, walk_from, walk_polyline, walk_all}
 use Rattle.events.specs.Drawn.{drawn}
 use Rattle.events.proofs.Loops.{traced_ind}
 use Rattle.events.proofs.Turns.{next_index, first_index, above_in, both_left, both_second}

@@ -10,7 +10,8 @@ use Rattle.events.specs.declared.Pos.{Pos}
 use Rattle.events.specs.declared.Leg.{Leg}
 use Rattle.events.specs.declared.Event.{Event}
 use Rattle.events.specs.declared.Event.TheVariants.{Nothing, Cut, Reach, Pass}
-use Rattle.events.specs.Walk.{point_on, nothing_left, turned, inside, resting, Place, place, goes, onward, tells, cut_from, beginning_at, cut_leg, passed, is_walked, leg_of, walk_from, walk_polyline, walk_all}
+use Rattle.events.specs.declared.Place.{Place}
+use Rattle.events.specs.Walk.{point_on, nothing_left, turned, inside, resting, place, goes, onward, tells, cut_from, beginning_at, cut_leg, passed, is_walked, leg_of, walk_from, walk_polyline, walk_all}
 use Rattle.events.specs.Drawn.{drawn}
 use Rattle.events.specs.Runs.{leg_if, legs_from, legs, to_corners, Runs, none, ends, cuts, AllRuns, more}
 use Rattle.events.proofs.Loops.{traced_ind}

@@ -19,7 +19,8 @@ use Rattle.events.specs.declared.Event.TheVariants.{Nothing, Cut, Reach, Pass}
 use Rattle.events.specs.Loop.{Trace, then, trace, traced}
 use Rattle.events.specs.Zeros.{after, zero_at, above, first_above, next}
 use Rattle.events.specs.Phase.{Phase, phase_goes, phase_next, phase_from, started, start_of}
-use Rattle.events.specs.Walk.{Place, place, Told, nothing_left, turned, inside, resting, goes, onward, tells, finish, cut_from, cut_leg, passed, leg_of, is_walked, walk_from, walk_polyline, walk_all}
+use Rattle.events.specs.declared.Place.{Place}
+use Rattle.events.specs.Walk.{place, Told, nothing_left, turned, inside, resting, goes, onward, tells, finish, cut_from, cut_leg, passed, leg_of, is_walked, walk_from, walk_polyline, walk_all}
 use Rattle.events.specs.Drawn.{down_to, drawn}
 use Rattle.events.specs.Source as source
 use Rattle.events.proofs.Loops.{traced_ind}

@@ -13,7 +13,8 @@ use lib.Ieee.Fits.{add-fits}
 use Rattle.events.specs.declared.Leg.{Leg}
 use Rattle.events.specs.declared.Event.{Event}
 use Rattle.float.specs.Arith.{plus, minus}
-use Rattle.events.specs.Walk.{resting, rested, goes, onward, tells, finish, Place, Told, cut_from}
+use Rattle.events.specs.declared.Place.{Place}
+use Rattle.events.specs.Walk.{resting, rested, goes, onward, tells, finish, Told, cut_from}
 use Rattle.events.specs.Zeros.{after, zero_at, above, first_above}
 use Rattle.events.proofs.Loops.{traced_stop, traced_step}
 use Rattle.float.specs.Rank.{rise}

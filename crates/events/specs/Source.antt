@@ -14,7 +14,8 @@ use Rattle.events.specs.Loop.{traced}
 use Rattle.events.specs.Zeros.{after, is_zero}
 use Rattle.events.specs.Drawn.{down_to}
 use Rattle.events.specs.Phase.{Phase, phase_goes, started}
-use Rattle.events.specs.Walk.{Place, place, Told, nothing_left, goes, tells, finish, leg_of, is_walked}
+use Rattle.events.specs.declared.Place.{Place}
+use Rattle.events.specs.Walk.{place, Told, nothing_left, goes, tells, finish, leg_of, is_walked}
 
 -- ---- the phase
 

@@ -11,6 +11,7 @@ use Rattle.vec2.specs.Vec2.{◌⊕◌, ◌⊖◌, ◌⊙◌, len}
 use Rattle.path.specs.declared.Segment.{Segment}
 use Rattle.events.specs.declared.Pos.{Pos}
 use Rattle.events.specs.declared.Leg.{Leg}
+use Rattle.events.specs.declared.Place.{Place}
 use Rattle.events.specs.declared.Event.{Event}
 use Rattle.events.specs.declared.Event.TheVariants.{Nothing, Cut, Reach, Pass}
 use Rattle.events.specs.Loop.{Trace, traced}
@@ -47,11 +48,6 @@ abbrev pub rested : Leg → Pos → Float → Pos
 rested g p t = record { index = p.index; left = minus p.left (minus g.length t); drawing = p.drawing }
 
 -- ---- a leg
-
--- where in the cycle, and how far from the leg's start
-pub record Place : Type 0 where
-  pub pos : Pos
-  pub t : Float
 
 -- what a leg's walk tells, and where in the cycle it ends
 pub record Told : Type 0 where

@@ -11,6 +11,13 @@ pub struct Pos {
     pub drawing: bool,
 }
 
+// Where the walk of a leg is: in the cycle, and how far from the leg's start.
+#[derive(Clone, Copy)]
+pub struct Place {
+    pub pos: Pos,
+    pub t: f32,
+}
+
 // A segment of a polyline: its start, the way to its end, its end and its length.
 #[derive(Clone, Copy)]
 pub struct Leg {

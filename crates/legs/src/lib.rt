@@ -9,7 +9,7 @@ ghost use Rattle.vec2.specs.Points.{point_at};
 ghost use Rattle.events.specs.Walk.{point_on, inside as insideOf, resting as restingOf, rested, leg_of};
 ghost use Rattle.strokes.specs.Lengths.{KeptLengths};
 
-use events::{Event, Leg, Pos};
+use events::{Event, Leg, Place, Pos};
 use vec2::Vec2;
 
 // The point at the distance t from the leg's start.
@@ -33,24 +33,24 @@ pub fn inside(g: Leg, p: Pos, t: f32) -> Event
     Event::Nothing
 }
 
-// The rest of the leg, from t on, lies inside the interval.
-pub fn resting(g: Leg, p: Pos, t: f32) -> Event
-    ensures { result ≡ restingOf g p t }
+// The rest of the leg lies inside the interval.
+pub fn resting(g: Leg, at: Place) -> Event
+    ensures { result ≡ restingOf g at.pos at.t }
 {
     let to = g.to;
-    if p.drawing {
-        let a = point_on(g, t);
+    if at.pos.drawing {
+        let a = point_on(g, at.t);
         return Event::Reach(a, to);
     }
     Event::Pass(to)
 }
 
-pub fn rested_at(g: Leg, p: Pos, t: f32) -> Pos
-    ensures { result ≡ rested g p t }
+pub fn rested_at(g: Leg, at: Place) -> Pos
+    ensures { result ≡ rested g at.pos at.t }
 {
     Pos {
-        left: p.left - (g.length - t),
-        ..p
+        left: at.pos.left - (g.length - at.t),
+        ..at.pos
     }
 }
 

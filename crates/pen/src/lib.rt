@@ -11,7 +11,7 @@ ghost use Rattle.events.specs.Walk.{nothing_left, turned, place, cut_from, passe
 ghost use Rattle.strokes.specs.Pen.{told_all, TakesAll, Unless, Led, begun_by, BeginsBy, Laws};
 
 use cycle::Start;
-use events::{Event, Leg, Pos};
+use events::{Event, Leg, Place, Pos};
 use legs::Legs;
 use vec2::Vec2;
 
@@ -71,23 +71,24 @@ fn walk_leg<P: Pen>(
     ensures { Led P.told P.full (length cycle.now) (P.on w.pen verbs.old floats.old) (cut_from cycle.now g (place w.pos f0))
         (P.on result.pen verbs.new floats.new) result.pos }
 {
-    let mut p = w.pos;
+    let mut at = Place { pos: w.pos, t: 0.0 };
     let mut pen = w.pen;
-    let mut t = 0.0f32;
-    while g.length - t > p.left {
-        let next = t + p.left;
-        if next <= t {
+    while g.length - at.t > at.pos.left {
+        let next = at.t + at.pos.left;
+        if next <= at.t {
             break;
         }
-        pen = pen.tell(legs::inside(g, p, next), verbs, floats);
+        pen = pen.tell(legs::inside(g, at.pos, next), verbs, floats);
         if pen.is_full() {
-            return Walked { pos: p, pen };
+            return Walked { pos: at.pos, pen };
         }
-        p = cycle::next_interval(cycle, p);
-        t = next;
+        at = Place {
+            pos: cycle::next_interval(cycle, at.pos),
+            t: next,
+        };
     }
-    let pen = pen.tell(legs::resting(g, p, t), verbs, floats);
-    let pos = legs::rested_at(g, p, t);
+    let pen = pen.tell(legs::resting(g, at), verbs, floats);
+    let pos = legs::rested_at(g, at);
     Walked { pos, pen }
 }
 

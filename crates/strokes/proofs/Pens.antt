@@ -14,7 +14,8 @@ use Rattle.events.specs.declared.Pos.{Pos}
 use Rattle.events.specs.declared.Leg.{Leg}
 use Rattle.events.specs.declared.Event.{Event}
 use Rattle.events.specs.declared.Event.TheVariants.{Nothing, Cut, Reach, Pass}
-use Rattle.events.specs.Walk.{inside, resting, rested, goes, onward, tells, Place, place, Told, nothing_left, cut_from, turned, beginning_at, cut_leg, passed, is_walked, leg_of, walk_from, walk_polyline}
+use Rattle.events.specs.declared.Place.{Place}
+use Rattle.events.specs.Walk.{inside, resting, rested, goes, onward, tells, place, Told, nothing_left, cut_from, turned, beginning_at, cut_leg, passed, is_walked, leg_of, walk_from, walk_polyline}
 use Rattle.strokes.specs.Pen.{told_all, TakesAll, Unless, Led, draws, begun_at, begun_by, BeginsBy, Laws}
 use Rattle.strokes.specs.Lengths.{all_legs}
 use Rattle.events.proofs.Turns.{cut_stop, cut_step}
@@ -157,51 +158,59 @@ module _ {S : Type 0} {told : S → Event → S} {begun : S → Vec2 → S} {ful
     stepped : (c : Told) → cut_from cs g q ≡ c → TakesAll told full takes s c.events
     stepped c e = subst (λ (z : Told). TakesAll told full takes s z.events) e i.taken
 
-    module _ (h : goes cs g q ≡ true) where
-      pub cut_taken : takes s (tells cs g q)
-      cut_taken = (stepped _ (cut_step cs g q i.fit h)).0
+    -- an interval ends inside the leg, by the event e
+    module _ (h : goes cs g q ≡ true) {e : Event} (is : e ≡ tells cs g q) where
+      pub cut_taken : takes s e
+      cut_taken = subst (takes s) (sym is) (stepped _ (cut_step cs g q i.fit h)).0
 
-      onward_same : (s' : S) → s' ≡ told s (tells cs g q) → told_all told s' (cut_from cs g (onward cs g q)).events ≡ told_all told s₀ (cut_from cs g q₀).events
-      onward_same s' es = ap (λ (z : S). told_all told z (cut_from cs g (onward cs g q)).events) es ∙ sym (ap (λ (c : Told). told_all told s c.events) (cut_step cs g q i.fit h)) ∙ i.same
+      module _ (s' : S) (es : s' ≡ told s e) where
+        made : s' ≡ told s (tells cs g q)
+        made = es ∙ ap (told s) is
 
-      -- the pen is full inside the leg
-      pub filled : (s' : S) → s' ≡ told s (tells cs g q) → full s' ≡ true → (p : Pos) → p.index < length cs → Led told full (length cs) s₀ (cut_from cs g q₀) s' p
-      filled s' es f p ip =
-          record {
-            led =
-                record {
-                  exact = λ n. absurd (true≢false (sym f ∙ n));
-                  over = λ n. subst (λ (z : S). full z ≡ true) (onward_same s' es) (full_all s' (cut_from cs g (onward cs g q)).events f);
-                };
-            walked = λ n. absurd (true≢false (sym f ∙ n));
-            indexed = ip;
-          }
+        onward_same : told_all told s' (cut_from cs g (onward cs g q)).events ≡ told_all told s₀ (cut_from cs g q₀).events
+        onward_same =
+            ap (λ (z : S). told_all told z (cut_from cs g (onward cs g q)).events) made
+            ∙ sym (ap (λ (c : Told). told_all told s c.events) (cut_step cs g q i.fit h))
+            ∙ i.same
 
-      pub going_on : (s' : S) → s' ≡ told s (tells cs g q) → full s' ≡ false → (p' : Pos) → p' ≡ turned cs q.pos → p'.index < length cs →
-          Going told full takes cs g s₀ q₀ s' (place p' (plus q.t q.pos.left))
-      going_on s' es f p' ep ip =
-          let t' = plus q.t q.pos.left in
-          let e : place p' t' ≡ onward cs g q = ap (λ (p : Pos). place p t') ep in
-          let rest = (stepped _ (cut_step cs g q i.fit h)).1 (subst (λ (z : S). full z ≡ false) es f) in
-          record {
-            walked = ap (λ (z : Place). (cut_from cs g z).pos) e ∙ sym (ap (λ (c : Told). c.pos) (cut_step cs g q i.fit h)) ∙ i.walked;
-            same = ap (λ (z : Place). told_all told s' (cut_from cs g z).events) e ∙ onward_same s' es;
-            fit = add-fits binary32 q.t q.pos.left;
-            indexed = ip;
-            taken =
-                subst (λ (z : Place). TakesAll told full takes s' (cut_from cs g z).events) (sym e)
-                (subst (λ (z : S). TakesAll told full takes z (cut_from cs g (onward cs g q)).events) (sym es) rest);
-          }
+        -- the pen is full inside the leg
+        pub filled : full s' ≡ true → (p : Pos) → p.index < length cs → Led told full (length cs) s₀ (cut_from cs g q₀) s' p
+        filled f p ip =
+            record {
+              led =
+                  record {
+                    exact = λ n. absurd (true≢false (sym f ∙ n));
+                    over = λ n. subst (λ (z : S). full z ≡ true) onward_same (full_all s' (cut_from cs g (onward cs g q)).events f);
+                  };
+              walked = λ n. absurd (true≢false (sym f ∙ n));
+              indexed = ip;
+            }
 
-    module _ (h : goes cs g q ≡ false) where
-      pub rest_taken : takes s (resting g q.pos q.t)
-      rest_taken = (stepped _ (cut_stop cs g q h)).0
+        pub going_on : full s' ≡ false → (p' : Pos) → p' ≡ turned cs q.pos → p'.index < length cs → Going told full takes cs g s₀ q₀ s' (place p' (plus q.t q.pos.left))
+        going_on f p' ep ip =
+            let t' = plus q.t q.pos.left in
+            let e : place p' t' ≡ onward cs g q = ap (λ (p : Pos). place p t') ep in
+            let rest = (stepped _ (cut_step cs g q i.fit h)).1 (subst (λ (z : S). full z ≡ false) made f) in
+            record {
+              walked = ap (λ (z : Place). (cut_from cs g z).pos) e ∙ sym (ap (λ (c : Told). c.pos) (cut_step cs g q i.fit h)) ∙ i.walked;
+              same = ap (λ (z : Place). told_all told s' (cut_from cs g z).events) e ∙ onward_same;
+              fit = add-fits binary32 q.t q.pos.left;
+              indexed = ip;
+              taken =
+                  subst (λ (z : Place). TakesAll told full takes s' (cut_from cs g z).events) (sym e)
+                  (subst (λ (z : S). TakesAll told full takes z (cut_from cs g (onward cs g q)).events) (sym made) rest);
+            }
 
-      pub gone : (s' : S) → s' ≡ told s (resting g q.pos q.t) → (p' : Pos) → p' ≡ rested g q.pos q.t → Led told full (length cs) s₀ (cut_from cs g q₀) s' p'
+    -- the rest of the leg lies inside the interval, by the event e
+    module _ (h : goes cs g q ≡ false) {e : Event} (is : e ≡ resting g q.pos q.t) where
+      pub rest_taken : takes s e
+      rest_taken = subst (takes s) (sym is) (stepped _ (cut_stop cs g q h)).0
+
+      pub gone : (s' : S) → s' ≡ told s e → (p' : Pos) → p' ≡ rested g q.pos q.t → Led told full (length cs) s₀ (cut_from cs g q₀) s' p'
       gone s' es p' ep =
           let stop = cut_stop cs g q h in
           record {
-            led = through (es ∙ sym (ap (λ (c : Told). told_all told s c.events) stop) ∙ i.same);
+            led = through (es ∙ ap (told s) is ∙ sym (ap (λ (c : Told). told_all told s c.events) stop) ∙ i.same);
             walked = λ n. ep ∙ sym (ap (λ (c : Told). c.pos) stop) ∙ i.walked;
             indexed = subst (λ (p : Pos). p.index < length cs) (sym ep) i.indexed;
           }
