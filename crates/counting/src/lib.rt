@@ -42,8 +42,8 @@ impl Counting {
         ensures { (result.tip ≡ tally_lift self.tip) × (result.cap ≡ self.cap) }
     {
         let tip = Tip {
-            at: self.tip.at,
             down: false,
+            ..self.tip
         };
         Counting { tip, ..self }
     }
@@ -72,6 +72,7 @@ impl Pen for Counting {
         }
     }
 
+    // Where it begins does not count.
     fn begin(self, _a: Vec2, _verbs: &mut [u8], _floats: &mut [f32]) -> Self {
         self.lift()
     }

@@ -29,8 +29,8 @@ fn index_after(cycle: &[f32], index: usize) -> usize
     0
 }
 
-// The first interval from `index` on that is not 0; once round where all are. Tried: `find` over the numbers of both parts, `(index..cycle.len()).chain(0..index)`.
-// The check doesn't find that all numbers before the one found are those of zeros, and the proof by hand is longer than the loop with its own.
+// The first interval from `index` on that is not 0; once round where all are. Tried: `find` over `(index..cycle.len()).chain(0..index)`; it stayed open that
+// whatever it passes over is 0.
 fn first_above(cycle: &[f32], index: usize) -> usize
     requires { index < length cycle.now }
     ensures { (result ≡ first_above cycle.now index) × (result < length cycle.now) }

@@ -29,16 +29,23 @@ fn lay(verbs: &mut [u8], floats: &mut [f32], at: usize, verb: u8, p: Vec2) -> us
     at + 1
 }
 
-// Lays a line to z, behind a move to a where the pen is up.
-fn lay_stroke(verbs: &mut [u8], floats: &mut [f32], tip: Tip, a: Vec2, z: Vec2) -> usize
-    requires { Room (length verbs.old) (length floats.old) (stroke tip.down (out verbs.old floats.old tip.at) a z) }
-    ensures { out verbs.new floats.new result ≡ stroke tip.down (out verbs.old floats.old tip.at) a z }
-{
-    if tip.down {
-        return lay(verbs, floats, tip.at, 1, z);
+impl Laying {
+    // Lays a line to z, behind a move to a where the pen is up, and leaves the pen up or down.
+    fn stroke(self, a: Vec2, z: Vec2, down: bool, verbs: &mut [u8], floats: &mut [f32]) -> Self
+        requires { Room (length verbs.old) (length floats.old) (stroke self.tip.down (out verbs.old floats.old self.tip.at) a z) }
+        ensures { sheet verbs.new floats.new result.tip ≡ record { page = stroke self.tip.down (out verbs.old floats.old self.tip.at) a z; down = down } }
+    {
+        let at = if self.tip.down {
+            self.tip.at
+        } else {
+            lay(verbs, floats, self.tip.at, 0, a)
+        };
+        let tip = Tip {
+            at: lay(verbs, floats, at, 1, z),
+            down,
+        };
+        Laying { tip }
     }
-    let next = lay(verbs, floats, tip.at, 0, a);
-    lay(verbs, floats, next, 1, z)
 }
 
 impl Pen for Laying {
@@ -56,23 +63,18 @@ impl Pen for Laying {
 
     ghost begins = { LaysBegin };
 
-    // The tip is made anew from its fields in each arm: a copy of the whole struct would go through memory.
     fn tell(self, e: Event, verbs: &mut [u8], floats: &mut [f32]) -> Self {
-        let tip = match e {
-            Event::Nothing | Event::Pass(_) => Tip {
-                at: self.tip.at,
-                down: false,
-            },
-            Event::Cut(a, z) => Tip {
-                at: lay_stroke(verbs, floats, self.tip, a, z),
-                down: false,
-            },
-            Event::Reach(a, c) => Tip {
-                at: lay_stroke(verbs, floats, self.tip, a, c),
-                down: true,
-            },
-        };
-        Laying { tip }
+        match e {
+            Event::Nothing | Event::Pass(_) => {
+                let tip = Tip {
+                    down: false,
+                    ..self.tip
+                };
+                Laying { tip }
+            }
+            Event::Cut(a, z) => self.stroke(a, z, false, verbs, floats),
+            Event::Reach(a, c) => self.stroke(a, c, true, verbs, floats),
+        }
     }
 
     // A dash begins by a move.

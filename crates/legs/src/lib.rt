@@ -21,7 +21,7 @@ fn point_on(g: Leg, t: f32) -> Vec2
     from + way * (t / g.length)
 }
 
-// An interval ends inside the leg, at t.
+// An interval ends inside the leg, at t. The walk itself is where the interval began, so p and t are no `Place`.
 pub fn inside(g: Leg, p: Pos, t: f32) -> Event
     ensures { result ≡ insideOf g p t }
 {

@@ -36,6 +36,7 @@ pub trait Pen: Copy {
 
     ghost begins: { State → Vec2 → Type 0 };
 
+    // The two buffers stay two arguments: a struct with two lent `&mut` slices would have to promise in each contract that it still holds these very two.
     fn tell(self, e: Event, verbs: &mut [u8], floats: &mut [f32]) -> Self
         requires { takes (on self verbs.old floats.old) e }
         ensures { on result verbs.new floats.new ≡ told (on self verbs.old floats.old) e };
@@ -51,14 +52,14 @@ pub trait Pen: Copy {
     ghost laws: { Laws told begun full takes begins };
 }
 
-// Where a walk is: in the cycle, and what its pen has done.
+// Where a walk is: in the cycle, and what its pen has done. The cycle goes beside it: a struct of both would have to promise at each step that its cycle is the same.
 #[derive(Clone, Copy)]
 pub struct Walked<P> {
     pub pos: Pos,
     pub pen: P,
 }
 
-// The walk of a leg. It stops where the pen is full.
+// The walk of a leg. It stops where the pen is full. Here and below `TakesAll` is asked each time of another list of events: no type could say it once.
 fn walk_leg<P: Pen>(
     cycle: &[f32],
     g: Leg,
@@ -92,8 +93,7 @@ fn walk_leg<P: Pen>(
     Walked { pos, pen }
 }
 
-// Where exactly nothing is left of the interval it ended where the leg begins, at a: the pen is up, and the next one begins. Otherwise the answer is made anew
-// from its fields: a copy of the whole struct would go through memory, at every leg.
+// Where exactly nothing is left of the interval it ended where the leg begins, at a: the pen is up, and the next one begins.
 fn turn<P: Pen>(
     cycle: &[f32],
     a: Vec2,
@@ -108,9 +108,8 @@ fn turn<P: Pen>(
         ≡ cond (nothing_left w.pos) (begun_by P.told P.begun (P.on w.pen verbs.old floats.old) a (turned cycle.now w.pos).drawing)
         (P.on w.pen verbs.old floats.old) }
 {
-    let p = w.pos;
-    if cycle::nothing_left(p) {
-        let pos = cycle::next_interval(cycle, p);
+    if cycle::nothing_left(w.pos) {
+        let pos = cycle::next_interval(cycle, w.pos);
         let pen = if pos.drawing {
             w.pen.begin(a, verbs, floats)
         } else {
@@ -118,12 +117,7 @@ fn turn<P: Pen>(
         };
         return Walked { pos, pen };
     }
-    let pos = Pos {
-        index: p.index,
-        left: p.left,
-        drawing: p.drawing,
-    };
-    Walked { pos, pen: w.pen }
+    w
 }
 
 // Walks a leg, or passes over one that is not walked: the pen stays as it is.
