@@ -29,23 +29,19 @@ fn index_after(cycle: &[f32], index: usize) -> usize
     0
 }
 
-// The first interval from `index` on that is not 0; once round where all are. Tried: `find` over `(index..cycle.len()).chain(0..index)`; it stayed open that
-// whatever it passes over is 0.
+// The first interval from `index` on that is not 0; once round where all are.
 fn first_above(cycle: &[f32], index: usize) -> usize
     requires { index < length cycle.now }
     ensures { (result ≡ first_above cycle.now index) × (result < length cycle.now) }
 {
-    let mut i = index;
-    for _turn in 0..cycle.len() {
-        if !is_zero(cycle[i]) {
-            return i;
-        }
-        i = index_after(cycle, i);
+    let is_above = |i: &usize| !is_zero(cycle[*i]);
+    if let Some(i) = (index..cycle.len()).find(is_above) {
+        return i;
     }
-    i
+    (0..index).find(is_above).unwrap_or(index)
 }
 
-// The next one that is not 0. Mostly it is the next: then no loop is entered.
+// The next one that is not 0. Mostly it is the next: then nothing is searched.
 fn next_above(cycle: &[f32], index: usize) -> usize
     requires { index < length cycle.now }
     ensures { (result ≡ next cycle.now index) × (result < length cycle.now) }

@@ -1,5 +1,5 @@
 -- The laws by which a proof uses `cut_from`: where the walk of a leg goes no further, and one turn of it. The position grows at each turn. Assumes nothing.
-use mathlib.Core.Path.{◌≡◌, refl, sym, ap}
+use mathlib.Core.Path.{◌≡◌, refl, sym, ◌∙◌, ap}
 use mathlib.Core.Logic.{◌⊎◌, inl, inr}
 use Prim.Native.Nat.{ℕ, zero, suc, ◌+◌, ◌-◌, ◌%◌, ◌≤◌, ◌<◌}
 use lib.ListN.{length}
@@ -103,20 +103,55 @@ above_by cs i (suc m) false e = above_this cs m i
 pub above_here : (cs : List Float) (i : ℕ) → zero_at cs i ≡ false → i ≡ first_above cs i
 above_here cs i h = above_by cs i (length cs) (zero_at cs i) h
 
-module _ (cs : List Float) (k i : ℕ) where
-  -- one more is passed over
-  pub above_on : zero_at cs i ≡ true → k < length cs → above cs (length cs - (k + 1)) (zero_at cs (after cs i)) (after cs i) ≡ above cs (length cs - k) (zero_at cs i) i
-  unfolding above
-  above_on h l =
-      let e : length cs - k ≡ suc (length cs - (k + 1)) = omega arith in
-      rw (e, h)
+-- one more is passed over
+above_next : (cs : List Float) (k i : ℕ) → zero_at cs i ≡ true → above cs (suc k) (zero_at cs i) i ≡ above cs k (zero_at cs (after cs i)) (after cs i)
+unfolding above
+above_next cs k i h = rw h
 
-  pub above_found : zero_at cs i ≡ false → i ≡ above cs (length cs - k) (zero_at cs i) i
-  above_found h = above_by cs i (length cs - k) (zero_at cs i) h
+-- all from i on are passed over, up to j
+above_up : (cs : List Float) (d i j k : ℕ) → i + d ≡ j → j < length cs → d ≤ k → ((m : ℕ) → i ≤ m → m < j → zero_at cs m ≡ true) →
+    above cs k (zero_at cs i) i ≡ above cs (k - d) (zero_at cs j) j
+above_up cs zero i j k e l n z =
+    let p : i ≡ j = omega (arith, e) in
+    let q : k - 0 ≡ k = omega arith in
+    rw (q, p)
+above_up cs (suc d) i j zero e l n z = absurd (omega (arith, n))
+above_up cs (suc d) i j (suc k) e l n z =
+    let q : suc k - suc d ≡ k - d = omega arith in
+    above_next cs k i (z i (omega arith) (omega (arith, e)))
+    ∙ sym (ap (λ (m : ℕ). above cs k (zero_at cs m) m) (next_index i (length cs) (omega (arith, e, l))))
+    ∙ above_up cs d (i + 1) j k (omega (arith, e)) l (omega (arith, n)) (λ m a b. z m (omega (arith, a)) b)
+    ∙ sym (ap (λ (m : ℕ). above cs m (zero_at cs j) j) q)
 
-  pub above_all : length cs ≤ k → i ≡ above cs (length cs - k) (zero_at cs i) i
-  unfolding above
-  above_all l = let e : length cs - k ≡ 0 = omega arith in rw e
+module _ (cs : List Float) (i : ℕ) where
+  -- the first that is not 0 stands from i on
+  pub above_behind : (j : ℕ) → i ≤ j → j < length cs → ((m : ℕ) → i ≤ m → m < j → zero_at cs m ≡ true) → zero_at cs j ≡ false → j ≡ first_above cs i
+  above_behind j g l z h =
+      above_by cs j (length cs - (j - i)) (zero_at cs j) h
+      ∙ sym (above_up cs (j - i) i j (length cs) (omega (arith, g)) l (omega (arith, l)) z)
 
-pub above_start : (cs : List Float) (i : ℕ) → above cs (length cs - 0) (zero_at cs i) i ≡ above cs (length cs) (zero_at cs i) i
-above_start cs i = let e : length cs - 0 ≡ length cs = omega arith in ap (λ (n : ℕ). above cs n (zero_at cs i) i) e
+  module _ (l : i < length cs) (z : (m : ℕ) → i ≤ m → m < length cs → zero_at cs m ≡ true) where
+    above_round : first_above cs i ≡ above cs i (zero_at cs 0) 0
+    above_round =
+        let last = length cs - 1 in
+        let n : length cs - (last - i) ≡ suc i = omega (arith, l) in
+        above_up cs (last - i) i last (length cs) (omega (arith, l)) (omega (arith, l)) (omega (arith, l)) (λ m a b. z m a (omega (arith, b)))
+        ∙ ap (λ (k : ℕ). above cs k (zero_at cs last) last) n
+        ∙ above_next cs i last (z last (omega (arith, l)) (omega (arith, l)))
+        ∙ sym (ap (λ (m : ℕ). above cs i (zero_at cs m) m) (first_index last (length cs) (omega (arith, l)) (omega (arith, l))))
+
+    -- it stands before i
+    pub above_before : (j : ℕ) → j < i → ((m : ℕ) → m < j → zero_at cs m ≡ true) → zero_at cs j ≡ false → j ≡ first_above cs i
+    above_before j g y h =
+        above_by cs j (i - j) (zero_at cs j) h
+        ∙ sym (above_up cs j 0 j i (omega arith) (omega (arith, g, l)) (omega (arith, g)) (λ m a b. y m b))
+        ∙ sym above_round
+
+    -- there is none
+    pub above_all : ((m : ℕ) → m < i → zero_at cs m ≡ true) → i ≡ first_above cs i
+    above_all y =
+        let n : i - i ≡ 0 = omega arith in
+        above_none cs (zero_at cs i) i
+        ∙ sym (ap (λ (k : ℕ). above cs k (zero_at cs i) i) n)
+        ∙ sym (above_up cs i 0 i i (omega arith) l (omega arith) (λ m a b. y m b))
+        ∙ sym above_round
