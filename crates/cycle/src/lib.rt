@@ -29,7 +29,9 @@ fn index_after(cycle: &[f32], index: usize) -> usize
     0
 }
 
-// The first interval from `index` on that is not 0; once round where all are.
+// The first interval from `index` on that is not 0; once round where all are. A walk seldom asks for it, so it stays out of the walk's loop.
+#[cold]
+#[inline(never)]
 fn first_above(cycle: &[f32], index: usize) -> usize
     requires { index < length cycle.now }
     ensures { (result ≡ first_above cycle.now index) × (result < length cycle.now) }
