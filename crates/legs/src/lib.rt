@@ -95,7 +95,8 @@ impl Iterator for Legs<'_> {
     }
 }
 
-// Works out the lengths of the legs from each point to the next, as many as `kept` takes.
+// Works out the lengths of the legs from each point to the next, as many as `kept` takes. Tried: `kept.iter_mut().zip(legs)`, behind which nothing is known of
+// what `kept` holds.
 pub fn keep_lengths(points: &[f32], kept: &mut [f32])
     ensures { KeptLengths kept.new points.now }
 {
