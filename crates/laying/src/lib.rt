@@ -38,10 +38,10 @@ impl Laying {
         let at = if self.tip.down {
             self.tip.at
         } else {
-            lay(verbs, floats, self.tip.at, 0, a)
+            lay(verbs, floats, self.tip.at, path::MOVE, a)
         };
         let tip = Tip {
-            at: lay(verbs, floats, at, 1, z),
+            at: lay(verbs, floats, at, path::LINE, z),
             down,
         };
         Laying { tip }
@@ -80,7 +80,7 @@ impl Pen for Laying {
     // A dash begins by a move.
     fn begin(self, a: Vec2, verbs: &mut [u8], floats: &mut [f32]) -> Self {
         let tip = Tip {
-            at: lay(verbs, floats, self.tip.at, 0, a),
+            at: lay(verbs, floats, self.tip.at, path::MOVE, a),
             down: true,
         };
         Laying { tip }
