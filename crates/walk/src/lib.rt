@@ -41,14 +41,12 @@ pub struct Scratch<'a> {
     pub ghost ordered: { Ordered (length points.now) 0 ends.now } by { Ordered-prop (length points.now) 0 ends.now },
 }
 
-// What is walked: the same, and the lengths of the first legs. Where each walk begins is handed on beside it: that of one polyline takes it alone.
+// What is walked, and the lengths of the first legs. Where each walk begins is handed on beside it: that of one polyline takes it alone.
 #[derive(Clone, Copy)]
 struct Lines<'a> {
-    points: &'a [f32],
-    ends: &'a [usize],
+    scratch: Scratch<'a>,
     lengths: &'a [f32],
-    ghost ordered: { Ordered (length points.now) 0 ends.now } by { Ordered-prop (length points.now) 0 ends.now },
-    ghost kept: { KeptLengths lengths.now points.now },
+    ghost kept: { KeptLengths lengths.now scratch.points.now },
 }
 
 // Walks each polyline in turn, the phase starting anew. It stops where the pen is full.
@@ -60,16 +58,16 @@ fn walk_all<P: Pen>(
     floats: &mut [f32],
 ) -> P
     requires { (P.full (P.on pen verbs.old floats.old) ≡ false) × TakesAll P.told P.full P.takes (P.on pen verbs.old floats.old)
-        (all_events start.cycle.now start.pos (polylines 0 (points_in lines.points.now) lines.ends.now)) }
+        (all_events start.cycle.now start.pos (polylines 0 (points_in lines.scratch.points.now) lines.scratch.ends.now)) }
     ensures { Unless P.full (told_all P.told (P.on pen verbs.old floats.old)
-        (all_events start.entry.cycle.now start.entry.pos (polylines 0 (points_in lines.entry.points.now) lines.entry.ends.now))) (P.on result verbs.new floats.new) }
+        (all_events start.entry.cycle.now start.entry.pos (polylines 0 (points_in lines.entry.scratch.points.now) lines.entry.scratch.ends.now))) (P.on result verbs.new floats.new) }
 {
     let mut pen = pen;
     let mut from = 0usize;
-    for end in lines.ends {
+    for end in lines.scratch.ends {
         let end = *end;
         let legs = Legs {
-            points: &lines.points[2 * from..2 * end],
+            points: &lines.scratch.points[2 * from..2 * end],
             lengths: lines.lengths.get(from..).unwrap_or_default(),
         };
         pen = pen::walk_polyline(legs, start, pen, verbs, floats);
@@ -85,7 +83,7 @@ fn walk_all<P: Pen>(
 #[tactic(auto, using(strokes::proofs::Counts::counts_all))]
 fn is_within(lines: Lines<'_>, start: Start<'_>, cap: usize) -> bool
     requires { cap < 2 ^ 61 }
-    ensures { result ≡ leb (length (walked start.entry.cycle.now start.entry.pos (points_in lines.entry.points.now) lines.entry.ends.now)) cap }
+    ensures { result ≡ leb (length (walked start.entry.cycle.now start.entry.pos (points_in lines.entry.scratch.points.now) lines.entry.scratch.ends.now)) cap }
 {
     let tip = Tip { at: 0, down: false };
     let none = Counting { tip, cap };
@@ -97,9 +95,9 @@ fn is_within(lines: Lines<'_>, start: Start<'_>, cap: usize) -> bool
 #[tactic(auto, using(strokes::proofs::Lays::all_drawn, strokes::proofs::Lays::lay_drawn, strokes::proofs::Lays::lays_all))]
 fn lay_all(lines: Lines<'_>, start: Start<'_>, verbs: &mut [u8], floats: &mut [f32]) -> usize
     requires { Room (length verbs.old) (length floats.old)
-        (laid (out verbs.old floats.old 0) (walked start.cycle.now start.pos (points_in lines.points.now) lines.ends.now)) }
+        (laid (out verbs.old floats.old 0) (walked start.cycle.now start.pos (points_in lines.scratch.points.now) lines.scratch.ends.now)) }
     ensures { out verbs.new floats.new result
-        ≡ laid (out verbs.old floats.old 0) (walked start.entry.cycle.now start.entry.pos (points_in lines.entry.points.now) lines.entry.ends.now) }
+        ≡ laid (out verbs.old floats.old 0) (walked start.entry.cycle.now start.entry.pos (points_in lines.entry.scratch.points.now) lines.entry.scratch.ends.now) }
 {
     let tip = Tip { at: 0, down: false };
     let none = Laying { tip };
@@ -115,7 +113,7 @@ fn cut_by(
     verbs: &mut [u8],
     floats: &mut [f32],
 ) -> Result<usize, Refusal>
-    ensures { LaidOrRefused (walked start.entry.cycle.now start.entry.pos (points_in lines.entry.points.now) lines.entry.ends.now)
+    ensures { LaidOrRefused (walked start.entry.cycle.now start.entry.pos (points_in lines.entry.scratch.points.now) lines.entry.scratch.ends.now)
         verbs.old floats.old result verbs.new floats.new }
 {
     let cap = room(verbs.len(), floats.len());
@@ -144,8 +142,7 @@ fn cut_keeping<const KEPT: usize>(
     let mut kept = [0.0f32; KEPT];
     legs::keep_lengths(scratch.points, &mut kept);
     let lines = Lines {
-        points: scratch.points,
-        ends: scratch.ends,
+        scratch,
         lengths: &kept,
     };
     cut_by(lines, start, verbs, floats)

@@ -16,7 +16,7 @@ use Rattle.walk.proofs.is_within.Goals as goal
 pub returns : goal.returns
 returns c =
     let s = c.args.start in
-    let ps = polylines 0 (points_in c.args.lines.points.now) c.args.lines.ends.now in
+    let ps = polylines 0 (points_in c.args.lines.scratch.points.now) c.args.lines.scratch.ends.now in
     ap not (c.is_full.ensures [] [])
     ∙ count_fits _ _ (all_events s.cycle.now s.pos ps) c.walk_all-all.ensures
     ∙ ap (λ (n : ℕ). leb n c.args.cap) (zero-add _ ∙ ap length (all_drawn s.cycle.now s.pos ps false))
