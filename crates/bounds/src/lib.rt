@@ -34,7 +34,7 @@ pub fn bounds(verbs: &[u8], points: &[f32]) -> Result<Rect, Refusal>
     Ok(Points::new(points).fold(Rect::empty(), Rect::union_point))
 }
 
-// Whether every point of a path is a place: no NaN, no infinity.
+// Whether every point of a path is a place: no NaN, no infinity. This question and the next are two calls of the scope, each one line over the library's `all`.
 pub fn is_finite(verbs: &[u8], points: &[f32]) -> Result<bool, Refusal>
     ensures { result ≡ asked all_finite verbs.now points.now }
 {

@@ -14,7 +14,7 @@ ghost use Rattle.crossing.specs.Dash.{dashed_out, dashed_in};
 use builder::{PathBuilder, Reply, RoundedRect};
 use float::SegmentCount;
 use outline::{Dashed, Outline};
-use path::{FillRule, Refusal};
+use path::{FillRule, Refusal, number_of};
 use polyline::Flattened;
 use rect::Rect;
 use replay::Replayed;
@@ -209,12 +209,9 @@ impl From<Result<Rect, Refusal>> for HzBounds {
     ghost from_gives = { λ r h. h ≡ bounds_out r };
 
     fn from(answer: Result<Rect, Refusal>) -> HzBounds {
-        match answer {
-            Ok(rect) => HzBounds { rect, refused: 0 },
-            Err(refusal) => HzBounds {
-                rect: Rect::empty(),
-                refused: refusal.into(),
-            },
+        HzBounds {
+            refused: number_of(&answer),
+            rect: answer.unwrap_or(Rect::empty()),
         }
     }
 }
@@ -230,12 +227,9 @@ impl From<Result<bool, Refusal>> for HzAnswer {
     ghost from_gives = { λ r h. h ≡ answer_out r };
 
     fn from(answer: Result<bool, Refusal>) -> HzAnswer {
-        match answer {
-            Ok(holds) => HzAnswer { holds, refused: 0 },
-            Err(refusal) => HzAnswer {
-                holds: false,
-                refused: refusal.into(),
-            },
+        HzAnswer {
+            refused: number_of(&answer),
+            holds: answer.unwrap_or(false),
         }
     }
 }
@@ -252,15 +246,9 @@ impl From<Result<Convexity, Refusal>> for HzVerdict {
     ghost from_gives = { λ r h. h ≡ verdict_out r };
 
     fn from(answer: Result<Convexity, Refusal>) -> HzVerdict {
-        match answer {
-            Ok(convexity) => HzVerdict {
-                convexity: convexity as u8,
-                refused: 0,
-            },
-            Err(refusal) => HzVerdict {
-                convexity: Convexity::Concave as u8,
-                refused: refusal.into(),
-            },
+        HzVerdict {
+            refused: number_of(&answer),
+            convexity: answer.unwrap_or(Convexity::Concave) as u8,
         }
     }
 }
@@ -284,27 +272,17 @@ impl From<Result<Flattened, Refusal>> for HzFlattened {
     ghost from_gives = { λ r h. h ≡ flattened_out r };
 
     fn from(answer: Result<Flattened, Refusal>) -> HzFlattened {
-        match answer {
-            Ok(t) => HzFlattened {
-                points: t.points,
-                polylines: t.polylines,
-                starts: t.starts,
-                lines: t.lines,
-                counts: t.counts,
-                closings: t.closings,
-                held: t.held,
-                refused: 0,
-            },
-            Err(refusal) => HzFlattened {
-                points: 0,
-                polylines: 0,
-                starts: 0,
-                lines: 0,
-                counts: 0,
-                closings: 0,
-                held: 0,
-                refused: refusal.into(),
-            },
+        let refused = number_of(&answer);
+        let t = answer.unwrap_or_default();
+        HzFlattened {
+            points: t.points,
+            polylines: t.polylines,
+            starts: t.starts,
+            lines: t.lines,
+            counts: t.counts,
+            closings: t.closings,
+            held: t.held,
+            refused,
         }
     }
 }
@@ -322,17 +300,12 @@ impl From<Result<SegmentCount, Refusal>> for HzCarried {
     ghost from_gives = { λ r h. h ≡ carried_out r };
 
     fn from(answer: Result<SegmentCount, Refusal>) -> HzCarried {
-        match answer {
-            Ok(n) => HzCarried {
-                count: n.count as usize,
-                held: n.held,
-                refused: 0,
-            },
-            Err(refusal) => HzCarried {
-                count: 0,
-                held: false,
-                refused: refusal.into(),
-            },
+        let refused = number_of(&answer);
+        let n = answer.unwrap_or_default();
+        HzCarried {
+            count: n.count as usize,
+            held: n.held,
+            refused,
         }
     }
 }

@@ -79,7 +79,8 @@ fn part(floats: &[f32], n: usize) -> Option<&[f32]>
     floats.get(..n.checked_mul(2)?)
 }
 
-// The drawn outline: the path's own part, or the filled part of the dash buffer; nothing where the dashing was refused, or where the numbers do not fit.
+// The drawn outline: the path's own part, or the filled part of the dash buffer; nothing where the dashing was refused, or where the numbers do not fit. The path's buffer
+// comes with the number of its points, as C lends it.
 pub fn drawn_outline<'a>(
     path: &'a [f32],
     points: usize,

@@ -3,7 +3,8 @@
 
 use vec2::Vec2;
 
-// Where the walk is in the cycle, as the source keeps it: whether it draws stands beside the index that tells it. `left` is what is left of the interval at `index`.
+// Where the walk is in the cycle. Whether it draws stands beside the index that tells it: the definition, which follows the source, has these three. `left` is what
+// is left of the interval at `index`.
 #[derive(Clone, Copy)]
 pub struct Pos {
     pub index: usize,

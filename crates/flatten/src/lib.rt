@@ -56,7 +56,7 @@ fn count_at(path: &Path<'_>, tolerance: f32, index: usize) -> SegmentCount
         .take(index)
         .fold(spot::start_of_path(), spot::advance);
     path.segments().nth(index).map_or(
-        measure::NO_COUNT,
+        SegmentCount::default(),
         |s| measure::curve_answer(tolerance, w, s),
     )
 }

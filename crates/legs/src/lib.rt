@@ -116,8 +116,5 @@ pub fn keep_lengths(points: &[f32], kept: &mut [f32])
 pub fn is_walked(length: f32) -> bool
     ensures { result ≡ (is_finite length && not (le length f0)) }
 {
-    if 0.0 < length {
-        return f32::to_bits(length) < 0x7f80_0000;
-    }
-    false
+    0.0 < length && f32::to_bits(length) < 0x7f80_0000
 }

@@ -13,12 +13,6 @@ use polyline::{Gauge, Spot, Tally};
 use segments::Path;
 use vec2::Vec2;
 
-// The answer where there is no curve.
-pub const NO_COUNT: SegmentCount = SegmentCount {
-    count: 0,
-    held: false,
-};
-
 // A curve's N and whether it was held back; 0 and false for what is no curve.
 #[tactic(auto, unfolding(polyline::specs::Flatten::places, polyline::specs::Flatten::is_held))]
 pub fn curve_answer(tolerance: f32, w: Spot, s: Segment) -> SegmentCount
@@ -27,7 +21,7 @@ pub fn curve_answer(tolerance: f32, w: Spot, s: Segment) -> SegmentCount
     match s {
         Segment::Quad(c, p) => wang::quad_segment_count(w.pen, c, p, tolerance),
         Segment::Cubic(c, d, p) => wang::cubic_segment_count(w.pen, c, d, p, tolerance),
-        _ => NO_COUNT,
+        _ => SegmentCount::default(),
     }
 }
 
@@ -40,7 +34,7 @@ fn add_drawn(g: Gauge, p: Vec2, curve: Option<SegmentCount>) -> Gauge
 {
     let t = g.sum;
     let w = g.spot;
-    let n = curve.unwrap_or(NO_COUNT);
+    let n = curve.unwrap_or_default();
     Gauge {
         sum: Tally {
             starts: t.starts + usize::from(!w.drawn),

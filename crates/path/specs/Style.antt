@@ -1,5 +1,5 @@
 -- The table of line styles by number ("Dash" of the scope). Definitions only.
-use Rattle.std.specs.Prelude.{ℕ, cond, List, [], ◌∷◌, get_or, nat_lt, Float, Option, None, Some}
+use Rattle.std.specs.Prelude.{ℕ, List, [], ◌∷◌, get_or, Float}
 use Rattle.std.specs.Float.{binary32}
 use Rattle.std.specs.Float.Ieee.{of_bits}
 use Rattle.float.specs.Arith.{f1, f2, f4}
@@ -33,7 +33,3 @@ styles =
 -- the intervals of style n; none for a number that is no style
 abbrev pub style_of : ℕ → List Float
 style_of n = get_or styles n []
-
--- the same, where the number is a style's
-abbrev pub style : ℕ → Option (List Float)
-style n = cond (nat_lt 8 n) None (Some (style_of n))

@@ -5,8 +5,7 @@ ghost use Rattle.std.specs.Prelude.{◌≡◌, false, ◌+◌, ◌*◌, ◌≤�
 ghost use Rattle.vec2.specs.Points.{point_at};
 ghost use Rattle.path.specs.Segment.{used, byte_of};
 ghost use Rattle.path.specs.Rule.{rule_in, rule_out};
-ghost use Rattle.std.specs.Option.{option_map};
-ghost use Rattle.path.specs.Style.{style};
+ghost use Rattle.path.specs.Style.{style_of};
 ghost use Rattle.path.specs.Check.{max_verbs, used_by, any_over4, bad_first, check, check_points};
 ghost use Rattle.path.specs.Refusal.{number, number_of};
 
@@ -153,18 +152,16 @@ const STYLES: [&[f32]; 9] = [
 pub fn point_count(verb: u8) -> usize
     ensures { (result ≡ used verb) × (result ≤ 3) }
 {
-    let at = verb as usize;
-    if at < 5 {
-        return usize::from(POINT_COUNTS[at]);
-    }
-    0
+    POINT_COUNTS
+        .get(verb as usize)
+        .map_or(0, |n| usize::from(*n))
 }
 
-// The intervals of a line style, where the number is one's.
-pub fn style(number: usize) -> Option<&'static [f32]>
-    ensures { option_map (λ s. s.now) result ≡ style number }
+// The intervals of a line style; none for a number that is no style.
+pub fn style(number: usize) -> &'static [f32]
+    ensures { result.now ≡ style_of number }
 {
-    STYLES.get(number).copied()
+    STYLES.get(number).copied().unwrap_or_default()
 }
 
 // ---- the path that is handed in

@@ -15,11 +15,14 @@ pub const MAX_INTERVALS: usize = 64;
 
 const MAX_CYCLE: usize = 128;
 
-// The intervals of a line style.
+// The intervals of a line style. `path::style` has an answer for every number: the refusal asks for the number itself.
 pub fn line_style(number: usize) -> Result<&'static [f32], Refusal>
     ensures { result_map_both (λ s. s.now) (λ r. r) result ≡ line_style number }
 {
-    path::style(number).ok_or(Refusal::NoStyle)
+    if 8 < number {
+        return Err(Refusal::NoStyle);
+    }
+    Ok(path::style(number))
 }
 
 // ---- the pattern
@@ -44,7 +47,7 @@ fn all_good(xs: &[f32]) -> bool
     xs.iter().all(|x| is_good(*x))
 }
 
-// Whether this pattern describes something that can be walked.
+// Whether this pattern describes something that can be walked. The phase comes beside the intervals, here and in the walk, as the scope's calls name them.
 pub fn is_usable(intervals: &[f32], phase: f32) -> bool
     ensures { result ≡ usable intervals.now phase }
 {

@@ -59,7 +59,7 @@ pub struct Walked<P> {
     pub pen: P,
 }
 
-// The walk of a leg. It stops where the pen is full. Here and below `TakesAll` is asked each time of another list of events: no type could say it once.
+// The walk of a leg. It stops where the pen is full. Here and below `TakesAll` is asked each time of another list of events, and that the pen is not full of another state of the buffers: no type could say it once.
 fn walk_leg<P: Pen>(
     cycle: &[f32],
     g: Leg,

@@ -18,7 +18,8 @@ pub fn is_straight(ctrl: Vec2, to: Vec2, weight: f32) -> bool
 }
 
 // A half of a conic: control point, start and end. An array and no struct, since the scope names this form; the control point first, so that no two points that
-// were stored apart are loaded as one.
+// were stored apart are loaded as one. Its three points have names by functions: a place in an array says nothing. The weight comes beside a half, since both
+// halves of a level have the same, which is worked out once.
 pub type Half = [[f32; 2]; 3];
 
 pub fn half_of(from: Vec2, ctrl: Vec2, to: Vec2) -> Half

@@ -1,5 +1,6 @@
 // The builder's two lent buffers: where it stands in them, what refuses a call, and how a segment is laid, which a refused call leaves undone.
 // Here and in the rooms above, verbs and points stay two arguments: a struct of two lent buffers would have to promise in each contract that it keeps those very references, and C lends them apart.
+// Counts of verbs and of points, too, go side by side: with a struct of both, each call would write the struct out.
 #![tactic(auto)]
 
 ghost use Rattle.std.specs.Prelude.{◌≡◌, true, [], ◌∷◌, ◌+◌, ◌≤◌, length};

@@ -2,7 +2,7 @@
 #![tactic(auto)]
 
 // How many verbs are laid, and whether the pen is down. The number stands with the pen up, too, so it is no Option.
-#[derive(Clone, Copy)]
+#[derive(Clone, Copy, Default)]
 pub struct Tip {
     pub at: usize,
     pub down: bool,

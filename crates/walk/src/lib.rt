@@ -85,8 +85,10 @@ fn is_within(lines: Lines<'_>, start: Start<'_>, cap: usize) -> bool
     requires { cap < 2 ^ 61 }
     ensures { result ≡ leb (length (walked start.entry.cycle.now start.entry.pos (points_in lines.entry.scratch.points.now) lines.entry.scratch.ends.now)) cap }
 {
-    let tip = Tip { at: 0, down: false };
-    let none = Counting { tip, cap };
+    let none = Counting {
+        tip: Tip::default(),
+        cap,
+    };
     let all = walk_all(lines, start, none, &mut [], &mut []);
     !all.is_full()
 }
@@ -99,8 +101,9 @@ fn lay_all(lines: Lines<'_>, start: Start<'_>, verbs: &mut [u8], floats: &mut [f
     ensures { out verbs.new floats.new result
         ≡ laid (out verbs.old floats.old 0) (walked start.entry.cycle.now start.entry.pos (points_in lines.entry.scratch.points.now) lines.entry.scratch.ends.now) }
 {
-    let tip = Tip { at: 0, down: false };
-    let none = Laying { tip };
+    let none = Laying {
+        tip: Tip::default(),
+    };
     let all = walk_all(lines, start, none, verbs, floats);
     all.tip.at
 }
@@ -173,7 +176,7 @@ fn cut_all(
     cut_keeping::<MANY_LENGTHS>(scratch, start, verbs, floats)
 }
 
-// Cuts what the scratch keeps.
+// Cuts what the scratch keeps. That the cycle is not empty stays a clause: a `pattern::Cycle` may be, until its pattern is found usable.
 pub fn cut_scratch(
     scratch: Scratch<'_>,
     cycle: &[f32],
