@@ -1,5 +1,5 @@
--- The absolute value of d is at most 0.001 exactly where −0.001 <= d <= 0.001, and never for a NaN (`near_sides`). Assumes nothing.
-use mathlib.Core.Path.{◌≡◌, refl, sym}
+-- The absolute value of d is at most 0.001 exactly where −0.001 <= d <= 0.001, and never for a NaN (`within_both`, `over_one`; `near_sides` of a weight). Assumes nothing.
+use mathlib.Core.Path.{◌≡◌, refl, sym, ap, ◌∙◌}
 use mathlib.Core.Bool.{Bool, true, false, ◌&&◌, ◌||◌}
 use Prim.Native.Nat.{ℕ, zero, suc, ◌+◌, ◌*◌}
 use native.Mathlib.Omega.{arith}
@@ -44,6 +44,13 @@ thousandth_is = refl
 
 sides : (d : Float) → le (abs d) thousandth ≡ (le d thousandth && le (neg thousandth) d)
 sides d = rw thousandth_is (both 8589935 (negsuc 32) d)
+
+-- one test after the other, of any d
+pub within_both : (d : Float) → le d thousandth ≡ true → le (neg thousandth) d ≡ le (abs d) thousandth
+within_both d h = sym (sides d ∙ ap (λ (b : Bool). b && le (neg thousandth) d) h)
+
+pub over_one : (d : Float) → le d thousandth ≡ false → false ≡ le (abs d) thousandth
+over_one d h = sym (sides d ∙ ap (λ (b : Bool). b && le (neg thousandth) d) h)
 
 -- by two tests, as code has them
 pub near_sides : (w : Float) → near_one w ≡ (le (minus w f1) thousandth && le (neg thousandth) (minus w f1))

@@ -1,5 +1,5 @@
 -- How many verbs the dash buffers take, and what the count says of the output's room. Assumes nothing.
-use mathlib.Core.Path.{◌≡◌, sym, ◌∙◌, ap}
+use mathlib.Core.Path.{◌≡◌, refl, sym, ◌∙◌, ap}
 use Prim.Native.Nat.{ℕ, ◌/◌, ◌≤◌}
 use native.Mathlib.Omega.{arith}
 use native.Mathlib.Nat.{zero-add, le_refl}
@@ -9,7 +9,7 @@ use lib.ListN.{length}
 use lib.Seq.{sets}
 use lib.Dec.{leb}
 use lib.Ieee.{Float}
-use borrow.Author.Tests.{le-leb, leb-true}
+use borrow.Author.Tests.{le-leb, leb-true, leb-false}
 use Rattle.std.proofs.lemmas.Bool.{and_parts}
 use Rattle.vec2.specs.Points.{flat}
 use Rattle.path.specs.declared.Segment.{Segment}
@@ -38,6 +38,20 @@ fits v p verbs floats h =
     let b = and_parts (leb v max_verbs) _ a.1 in
     let c = and_parts (leb p (floats / 2)) _ b.1 in
     record { verb = leb-true _ _ a.0; limit = leb-true _ _ b.0; point = leb-true _ _ c.0 }
+
+-- the cap is the largest number that is no more than the buffers and the limit take: what the walk's `room` works out
+pub cap_is : (verbs floats r : ℕ) → r ≤ verbs → r ≤ 65536 → r ≤ floats / 2 → ((n : ℕ) → n ≤ verbs → n ≤ 65536 → n ≤ floats / 2 → n ≤ r) → Cap verbs floats r
+cap_is verbs floats r a b c most n = go (leb n r) refl
+  where
+    go : (d : Bool) → leb n r ≡ d → fits_both n n verbs floats ≡ d
+    go true e =
+        let l = leb-true n r e in
+        rw (le-leb n verbs (omega (arith, l, a)), le-leb n 65536 (omega (arith, l, b)), le-leb n (floats / 2) (omega (arith, l, c)), le-leb n 131072 (omega (arith, l, b)))
+    go false e = not_so (fits_both n n verbs floats) refl
+      where
+        not_so : (d : Bool) → fits_both n n verbs floats ≡ d → d ≡ false
+        not_so true q = let f = fits n n verbs floats q in absurd (omega (arith, leb-false n r e, most n f.verb f.limit f.point))
+        not_so false q = refl
 
 pub cap_small : (verbs floats r : ℕ) → Cap verbs floats r → r ≤ 65536
 cap_small verbs floats r c = (fits r r verbs floats (c r ∙ le-leb r r (le_refl r))).limit

@@ -274,7 +274,8 @@ module _ {S : Type 0} {told : S → Event → S} {begun : S → Vec2 → S} {ful
           subst (λ (z : S). TakesAll told full takes z (cut_from cs g (place p' f0)).events) (sym es)
           (subst (λ (z : Pos). TakesAll told full takes (cond b first s) (cut_from cs g (place z f0)).events) (sym ep) (taken_by b t))
 
-    same_by : (b : Bool) → told_all told (cond b first s) (cut_from cs g (place (cond b (turned cs p) p) f0)).events ≡ told_all told s (cut_leg b cs g p).events
+    -- by any pen; `Lines.turn_lays` says it of laying
+    pub same_by : (b : Bool) → told_all told (cond b first s) (cut_from cs g (place (cond b (turned cs p) p) f0)).events ≡ told_all told s (cut_leg b cs g p).events
     same_by true = same_as begun_head
     same_by false = refl
 
