@@ -19,4 +19,4 @@ returns c =
     let ps = polylines 0 (points_in c.args.lines.scratch.points.now) c.args.lines.scratch.ends.now in
     ap not (c.is_full.ensures [] [])
     ∙ count_fits _ _ (all_events s.cycle.now s.pos ps) c.walk_all-all.ensures
-    ∙ ap (λ (n : ℕ). leb n c.args.cap) (zero-add _ ∙ ap length (all_drawn s.cycle.now s.pos ps false))
+    ∙ rw (c.default.ensures.0, c.default.ensures.1) (ap (λ (n : ℕ). leb n c.args.cap) (zero-add _ ∙ ap length (all_drawn s.cycle.now s.pos ps false)))
