@@ -19,13 +19,17 @@ twice ps z s p odd isS isP =
     (take-put_mid (length ps) (2 * length ps - length ps) (ps ++ drop (length ps) z) ps (2 * length ps) (omega arith) (omega (arith, length-append ps (drop (length ps) z)))
     ∙ ap (λ (r : List Float). r ++ ps) (take-append_seam ps (drop (length ps) z)))
 
--- the whole array, and how many intervals are in it
+-- the array that holds the working cycle: zeros behind it
+abbrev pub working_cycle : List Float → List Float
+working_cycle ps = sets (replicate max_cycle f0) 0 (cycle_of ps)
+
+-- how it comes to be, and how many intervals are in it
 module _ (ps v : List Float) where
   -- an even pattern, stored once
-  pub even : length ps % 2 ≡ 0 → v ≡ sets (replicate max_cycle f0) 0 ps → (v ≡ sets (replicate max_cycle f0) 0 (cycle_of ps)) × (length ps ≡ length (cycle_of ps))
+  pub even : length ps % 2 ≡ 0 → v ≡ sets (replicate max_cycle f0) 0 ps → (v ≡ working_cycle ps) × (length ps ≡ length (cycle_of ps))
   even h e = rw (eq-eqb (length ps % 2) 0 h) (e, refl)
 
   -- an odd one, stored twice
   pub odd : (length ps % 2 ≡ 0 → ⊥) → v ≡ sets (sets (replicate max_cycle f0) 0 ps) (length ps) ps →
-      (v ≡ sets (replicate max_cycle f0) 0 (cycle_of ps)) × (length ps + length ps ≡ length (cycle_of ps))
+      (v ≡ working_cycle ps) × (length ps + length ps ≡ length (cycle_of ps))
   odd h e = rw (ne_eqb (length ps % 2) 0 h, e, length-append ps ps, sets-append ps ps (replicate max_cycle f0) 0, zero-add (length ps)) (refl, refl)
