@@ -1,5 +1,5 @@
 -- Small call lists, from the definitions by computation. Assumes nothing.
-use mathlib.Core.Path.{◌≡◌, refl}
+use mathlib.Core.Path.{◌≡◌, refl, ap}
 use mathlib.Core.List.{List, [], ◌∷◌}
 use Prim.Native.Nat.{ℕ}
 use lib.Ieee.{nan, of_bits, of_int}
@@ -12,7 +12,9 @@ use Rattle.store.specs.Refusal.{verb_cap, point_cap, bad_state, no_room, refusal
 use Rattle.builder.specs.declared.Call.{Call}
 use Rattle.builder.specs.declared.Call.TheVariants.{MoveTo, LineTo, QuadTo, Close as CloseIt, AsRoundedRect}
 use Rattle.path.specs.declared.Refusal.TheVariants.{OddFloats, BuilderFull}
-use Rattle.std.specs.Prelude.{Ok, Err, None}
+use Rattle.std.specs.Prelude.{Result, Ok, Err, None, map}
+use Rattle.path.specs.declared.Refusal.{Refusal}
+use Rattle.path.specs.Refusal.{number_of}
 use Rattle.builder.specs.Call.{lays}
 use Rattle.builder.specs.Build.{Built, fresh_over, run, answers, called, quads_laid, pushed, steps, set_by, finite_box, refusal, note_of, pen_of}
 use Rattle.builder.specs.Laid.{laid_by, laid_from, lay, puts}
@@ -43,6 +45,10 @@ line_floats = refl
 tight_answers : answers lent tight ≡ Ok 0 ∷ Ok 0 ∷ Err BuilderFull ∷ Ok 0 ∷ Ok 0 ∷ Err BuilderFull ∷ []
 unfolding answers called quads_laid pushed lays steps refusal refusal_of bad_state no_room verb_cap point_cap of_bits of_int
 tight_answers = refl
+
+-- the same by the scope's numbers
+tight_refusals : map (λ (r : Result ℕ Refusal). number_of r) (answers lent tight) ≡ 0 ∷ 0 ∷ 2 ∷ 0 ∷ 0 ∷ 2 ∷ []
+tight_refusals = ap (map (λ (r : Result ℕ Refusal). number_of r)) tight_answers
 
 tight_laid : laid_by tight (9 ∷ 9 ∷ 9 ∷ 9 ∷ []) (f1 ∷ f1 ∷ f1 ∷ f1 ∷ f1 ∷ f1 ∷ []) ≡ Move (at 1 2) ∷ Line (at 3 4) ∷ Close ∷ Line (at 5 6) ∷ []
 unfolding answers called quads_laid pushed lays steps refusal refusal_of bad_state no_room verb_cap point_cap laid_from lay puts of_bits of_int
