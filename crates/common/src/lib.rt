@@ -1,11 +1,14 @@
 // What the programs share: a builder call played, whichever it is, and how answers are told.
 #![tactic(auto)]
 
-ghost use Rattle.std.specs.Prelude.{◌≡◌, pos};
+ghost use Rattle.std.specs.Prelude.{◌≡◌, pos, Some};
 ghost use Rattle.std.specs.List.{find, range_with_len};
 ghost use Rattle.std.specs.Float.{binary32};
 ghost use Rattle.std.specs.Float.Ieee.{eq, of_int};
+ghost use Rattle.std.specs.Result.{result_map_both};
 ghost use Rattle.builder.specs.Build.{outcome, called};
+ghost use Rattle.turns.specs.Answer.{polygon_convexity};
+ghost use Rattle.common.specs.Told.{refused_text, told_text, shape_text, yes_no_text};
 
 use builder::{Call, PathBuilder, Reply};
 use path::Refusal;
@@ -36,15 +39,31 @@ pub fn whole(x: f32, limit: u16) -> Option<u16>
     (0..limit).find(|n| f32::from(*n) == x)
 }
 
-// An answer, or the number that refuses it.
+// ---- how answers are told
+
+// `refused`, and by which number.
+#[derive(Clone, Copy)]
+pub struct Refused(pub Refusal);
+
+impl fmt::Display for Refused {
+    ghost output = { λ r. Some (refused_text r.0) };
+
+    fn fmt<W: fmt::Write>(&self, f: &mut fmt::Formatter<W>) -> fmt::Result {
+        write!(f, "refused {}", u8::from(self.0))
+    }
+}
+
+// An answer, or what refuses it.
 #[derive(Clone, Copy)]
 pub struct Told<T>(pub Result<T, Refusal>);
 
 impl<T: fmt::Display> fmt::Display for Told<T> {
+    ghost output = { λ t. told_text T.output t.0 };
+
     fn fmt<W: fmt::Write>(&self, f: &mut fmt::Formatter<W>) -> fmt::Result {
         match &self.0 {
             Ok(answer) => write!(f, "{answer}"),
-            Err(refusal) => write!(f, "refused {}", u8::from(*refusal)),
+            Err(refusal) => write!(f, "{}", Refused(*refusal)),
         }
     }
 }
@@ -54,6 +73,8 @@ impl<T: fmt::Display> fmt::Display for Told<T> {
 pub struct Shape(pub Convexity);
 
 impl fmt::Display for Shape {
+    ghost output = { λ s. Some (shape_text s.0) };
+
     fn fmt<W: fmt::Write>(&self, f: &mut fmt::Formatter<W>) -> fmt::Result {
         f.write_str(match self.0 {
             Convexity::Convex => "Convex",
@@ -62,11 +83,20 @@ impl fmt::Display for Shape {
     }
 }
 
+// What is told of a polygon.
+pub fn polygon(points: &[f32]) -> Told<Shape>
+    ensures { result_map_both (λ s. s.0) (λ r. r) result.0 ≡ polygon_convexity points.now }
+{
+    Told(convexity::polygon_convexity(points).map(Shape))
+}
+
 // `yes` or `no`.
 #[derive(Clone, Copy)]
 pub struct YesNo(pub bool);
 
 impl fmt::Display for YesNo {
+    ghost output = { λ b. Some (yes_no_text b.0) };
+
     fn fmt<W: fmt::Write>(&self, f: &mut fmt::Formatter<W>) -> fmt::Result {
         f.write_str(if self.0 { "yes" } else { "no" })
     }

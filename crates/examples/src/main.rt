@@ -2,7 +2,7 @@
 #![tactic(auto)]
 
 use builder::PathBuilder;
-use common::{Shape, Told};
+use common::{Refused, Told};
 use outline::{Dashed, Outline};
 use path::{FillRule, Segment};
 use segments::Path;
@@ -41,6 +41,16 @@ impl fmt::Display for Piece {
             Segment::Close => return write!(f, "close"),
         };
         write!(f, "{verb} ({},{})", Number(p.x), Number(p.y))
+    }
+}
+
+// So many quads.
+#[derive(Clone, Copy)]
+struct Quads(usize);
+
+impl fmt::Display for Quads {
+    fn fmt<W: fmt::Write>(&self, f: &mut fmt::Formatter<W>) -> fmt::Result {
+        write!(f, "{} quads", self.0)
     }
 }
 
@@ -95,7 +105,7 @@ fn print_dashed(rt: &impl Print, path: &Path, intervals: &[f32]) -> io::Result<(
     match answer {
         Ok(Dashed::Whole) => println!(rt; " Whole"),
         Ok(Dashed::Cut(cut)) => print_cut(rt, &dash_verbs, &dash_points, cut),
-        Err(refusal) => println!(rt; " refused {}", u8::from(refusal)),
+        Err(refusal) => println!(rt; " {}", Refused(refusal)),
     }
 }
 
@@ -127,37 +137,20 @@ fn print_conic(rt: &impl Print) -> io::Result<()> {
     let to = Vec2::new(2.0, 0.0);
     let state = moved.state;
     let r = state.conic_to(&mut verbs, &mut points, control, to, 100.0);
-    print!(rt; "move to NaN, conic weight 100: ")?;
-    match r.quads {
-        Ok(quads) => println!(rt; "{quads} quads"),
-        Err(refusal) => println!(rt; "refused {}", u8::from(refusal)),
-    }
+    let quads = Told(r.quads.map(Quads));
+    println!(rt; "move to NaN, conic weight 100: {quads}")
 }
 
 // ---- convexity
 
-fn print_verdict(rt: &impl Print, what: &str, points: &[f32]) -> io::Result<()> {
-    let verdict = Told(convexity::polygon_convexity(points).map(Shape));
-    println!(rt; "{what}: {verdict}")
-}
-
 fn print_polygons(rt: &impl Print) -> io::Result<()> {
     let s = 0.000030517578125;
-    print_verdict(
-        rt,
-        "(50,70) (0,70) (0,0) (40,70) (40,70)",
-        &[50.0, 70.0, 0.0, 70.0, 0.0, 0.0, 40.0, 70.0, 40.0, 70.0],
-    )?;
-    print_verdict(
-        rt,
-        "(0,0) (4,0) (1,1) (0,4)",
-        &[0.0, 0.0, 4.0, 0.0, 1.0, 1.0, 0.0, 4.0],
-    )?;
-    print_verdict(
-        rt,
-        "the same times 2^-15",
-        &[0.0, 0.0, 4.0 * s, 0.0, s, s, 0.0, 4.0 * s],
-    )
+    let back = common::polygon(&[50.0, 70.0, 0.0, 70.0, 0.0, 0.0, 40.0, 70.0, 40.0, 70.0]);
+    println!(rt; "(50,70) (0,70) (0,0) (40,70) (40,70): {back}")?;
+    let dart = common::polygon(&[0.0, 0.0, 4.0, 0.0, 1.0, 1.0, 0.0, 4.0]);
+    println!(rt; "(0,0) (4,0) (1,1) (0,4): {dart}")?;
+    let small = common::polygon(&[0.0, 0.0, 4.0 * s, 0.0, s, s, 0.0, 4.0 * s]);
+    println!(rt; "the same times 2^-15: {small}")
 }
 
 fn main(rt: HostRuntime) -> io::Result<()> {

@@ -30,7 +30,7 @@ const MOST: Room = Room {
     marks: 3,
 };
 
-// The answer of a flattening, or the number of its refusal, and what is left in the floats, ends and marks, which are lent as 7, 99 and 9.
+// The answer of a flattening, and what is left in the floats, ends and marks, which are lent as 7, 99 and 9.
 #[derive(Clone, Copy)]
 struct Flattening {
     answer: Result<Flattened, Refusal>,

@@ -9,14 +9,10 @@ use vec2::Vec2;
 
 // ---- convexity
 
-fn polygon(rt: &impl Print, name: &str, points: &[f32]) -> io::Result<()> {
-    let shape = Told(convexity::polygon_convexity(points).map(Shape));
-    println!(rt; "{name}: {shape}")
-}
-
 fn polygons(rt: &impl Print, list: &[(&str, &[f32])]) -> io::Result<()> {
     for (name, points) in list {
-        polygon(rt, name, points)?;
+        let shape = common::polygon(points);
+        println!(rt; "{name}: {shape}")?;
     }
     Ok(())
 }
@@ -210,18 +206,26 @@ fn lay_square(points: &mut [[f32; 2]]) {
 
 fn up_to_the_limit(rt: &impl Print) -> io::Result<()> {
     let mut long = [0.0; 262144];
-    polygon(rt, "131,072 times one point", &long)?;
+    println!(rt; "131,072 times one point: {}", common::polygon(&long))?;
     long[262142] = 1.0;
-    polygon(rt, "131,071 times one point, then another", &long)?;
+    println!(rt;
+        "131,071 times one point, then another: {}",
+        common::polygon(&long)
+    )?;
     lay_square(long.as_chunks_mut().0);
-    polygon(rt, "square of 131,072 points", &long)?;
+    println!(rt; "square of 131,072 points: {}", common::polygon(&long))?;
     long[200001] = 32767.0;
-    polygon(rt, "the same with a dent", &long)
+    println!(rt; "the same with a dent: {}", common::polygon(&long))
 }
 
 fn past_the_limit(rt: &impl Print) -> io::Result<()> {
-    polygon(rt, "131,073 points", &[0.0; 262146])?;
-    polygon(rt, "131,073 points and a float", &[0.0; 262147])
+    polygons(
+        rt,
+        &[
+            ("131,073 points", &[0.0; 262146]),
+            ("131,073 points and a float", &[0.0; 262147]),
+        ],
+    )
 }
 
 // ---- finiteness and range
