@@ -9,7 +9,7 @@
 
 use builder::{Call, PathBuilder, Reply, RoundedRect};
 use common::YesNo;
-use path::{FillRule, Refusal};
+use path::{FillRule, Refusal, number_of};
 use rect::Rect;
 use std::io::{BufRead, BufReader, ErrorKind};
 use std::{fmt, io};
@@ -141,10 +141,12 @@ struct Quads(Result<usize, Refusal>);
 
 impl fmt::Display for Quads {
     fn fmt<W: fmt::Write>(&self, f: &mut fmt::Formatter<W>) -> fmt::Result {
-        match self.0 {
-            Ok(quads) => write!(f, "refused 0 quads {quads}"),
-            Err(refusal) => write!(f, "refused {} quads 0", u8::from(refusal)),
-        }
+        write!(
+            f,
+            "refused {} quads {}",
+            number_of(&self.0),
+            self.0.unwrap_or(0)
+        )
     }
 }
 
