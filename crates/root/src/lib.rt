@@ -17,6 +17,7 @@ struct Root {
 // reciprocal root's polynomial of degree 5 at x * y * y, as a product of factors. Nothing is promised of it: `whole_root` tests what it gives.
 // Measured over the normal patterns: from 3 parts in 10^12 below the root to 6 in 10^10 above, so that its first 24 digits are the root's in 996 of 1,000
 // cases, and in all where the root is whole.
+#[tactic(auto, using(std::proofs::lemmas::Float::not_nan_f64_bits))]
 fn near_root(x: f32, b: u32) -> f64
     requires { T (not (is_nan x)) × (b < 0x8000_0000) }
 {
@@ -75,7 +76,9 @@ fn rounded_root(r: Root) -> u64
     }
 }
 
-// The pattern of the root of a normal pattern: times a power of four the operand is a whole number of 47 or 48 digits, whose root has 24.
+// The pattern of the root of a normal pattern: times a power of four the operand is a whole number of 47 or 48 digits, whose root has 24. That a pattern is
+// finite, here and below, is a bound on one number: as a clause it is shorter than a type for it would be.
+#[tactic(auto, using(std::proofs::lemmas::Float::not_nan_f32_bits))]
 fn normal_root(b: u32) -> u32
     requires { (0x80_0000 ≤ b) × (b < 0x7f80_0000) }
     ensures { (of_bits binary32 result ≡ square_root binary32 (of_bits binary32 b)) × (result < 0x7f80_0000) }
@@ -129,6 +132,7 @@ pub fn root_pattern(b: u32) -> u32
 }
 
 // IEEE 754's squareRoot.
+#[tactic(auto, using(std::proofs::lemmas::Float::not_nan_f32_bits))]
 pub fn sqrt(x: f32) -> f32
     ensures { result ≡ square_root binary32 x }
 {

@@ -1,16 +1,13 @@
 -- `root::normal_root` meets its contract: `float/proofs/Whole` has the arithmetic, here at the parts of a normal pattern. Assumes nothing.
 use mathlib.Core.Path.{◌≡◌, sym, ap, ◌∙◌, subst}
-use mathlib.Core.Bool.{Bool, not}
 use Prim.Native.Nat.{ℕ, ◌+◌, ◌-◌, ◌*◌, ◌/◌, ◌%◌, ◌^◌, ◌≤◌, ◌<◌}
-use native.Mathlib.Nat.{lt_of_lt_of_le, mod-eq_of_lt, le_of_lt}
+use native.Mathlib.Nat.{lt_of_lt_of_le, mod-eq_of_lt}
 use native.Mathlib.Omega.{arith}
-use lib.Dec.{T, lit≤}
-use lib.Ieee.{binary32, of_bits, is_nan, nan_bits}
-use lib.Ieee.Bits.{nan_bits_is}
+use lib.Dec.{lit≤}
+use lib.Ieee.{binary32, of_bits}
 use Rattle.float.specs.Root.{square_root}
 use Rattle.float.specs.Pattern.{Normal, WholeRoot, rounded}
 use Rattle.float.specs.Exact.{ExactRoot}
-use Rattle.float.proofs.Floats.{low_no_nan}
 use Rattle.float.proofs.Normal.{high_normal}
 use Rattle.float.proofs.Whole.{whole, whole_lt, exact_of, root_bits, bits_lt}
 use Rattle.root.proofs.normal_root.Goals.{After-rounded_root-r}
@@ -22,12 +19,6 @@ operand b = (8388608 + b % 8388608) * 2 ^ (24 - b / 8388608 % 2) % 2 ^ 64
 
 abbrev packed : ℕ → ℕ → ℕ
 packed b s = (b + 0x3e800000) / 16777216 * 8388608 + s
-
-no_nan : (b : ℕ) → b < 0x7f800000 → T (not (nan_bits binary32 b))
-no_nan b h = low_no_nan binary32 b (le_of_lt h)
-
-number : (b : ℕ) → b < 0x7f800000 → T (not (is_nan (of_bits binary32 b)))
-number b h = subst (λ (x : Bool). T (not x)) (nan_bits_is binary32 b) (no_nan b h)
 
 module _ (b : ℕ) (l : 8388608 ≤ b) (h : b < 0x7f800000) where
   parts : Normal b (8388608 + b % 8388608) (b / 8388608 + 23)
@@ -72,12 +63,6 @@ module _ (b : ℕ) (l : 8388608 ≤ b) (h : b < 0x7f800000) where
 
       right : of_bits binary32 (packed b s) ≡ square_root binary32 (of_bits binary32 b)
       right = ap (of_bits binary32) same ∙ root_bits b h ((b / 8388608 + 23 + 102) / 2) root rest exact positive
-
-pub float_from_bits-b : goal.float_from_bits-b
-float_from_bits-b c = no_nan c.args.b c.requires.1
-
-pub near_root-requires : goal.near_root-requires
-near_root-requires c = (number c.args.b c.requires.1, omega (arith, c.requires.1))
 
 pub whole_root-requires : goal.whole_root-requires
 whole_root-requires c = operand_lt c.args.b c.requires.0 c.requires.1

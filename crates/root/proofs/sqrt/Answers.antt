@@ -1,13 +1,12 @@
 -- `root::sqrt` meets its contract: a value that is no NaN is read back from its bits, and `float/proofs/Patterns` has the root of each kind of pattern. Assumes nothing.
 use mathlib.Core.Path.{◌≡◌, refl, sym, ap, ◌∙◌, subst}
-use mathlib.Core.Bool.{Bool, true, false, not}
-use Prim.Native.Nat.{ℕ, ◌%◌, ◌^◌, ◌≤◌, ◌<◌}
+use mathlib.Core.Bool.{true}
+use Prim.Native.Nat.{ℕ, ◌^◌, ◌≤◌, ◌<◌}
 use native.Mathlib.Nat.{not-le_of_lt}
-use native.Mathlib.Omega.{arith}
 use lib.Dec.{T}
-use lib.Ieee.{Float, nan, inf, fin, binary32, is_nan, nan_bits, fits, of_bits, to_bits}
-use lib.Ieee.Bits.{of_bits-to_bits, to_bits-lt, nan_bits_above}
-use borrow.Author.Tests.{le-ltb}
+use lib.Ieee.{Float, nan, inf, fin, binary32, is_nan, fits, of_bits, to_bits}
+use lib.Ieee.Bits.{of_bits-to_bits, to_bits-lt}
+use Rattle.std.proofs.lemmas.Float.{T_from_true}
 use Rattle.float.specs.Root.{square_root}
 use Rattle.float.proofs.Patterns.{root_negative, root_top, root_zero}
 use Rattle.root.proofs.sqrt.Goals.{After-is_nan, Then-b-ge8388608-2, then-b-ge8388608+else-b-lt2139095040, else-b-ge8388608}
@@ -15,16 +14,13 @@ use Rattle.root.proofs.sqrt.Goals as goal
 
 -- what owning an `f32` tells: the format holds it
 fits_by : (c : After-is_nan) → T (fits binary32 c.args.x)
-fits_by c = subst T (sym c.well_formed.0.1) tt
+fits_by c = T_from_true _ c.well_formed.0.1
 
 nan_root : (x : Float) → is_nan x ≡ true → x ≡ square_root binary32 x
 unfolding square_root is_nan
 nan_root nan h = refl
 nan_root (inf s) h = absurd (subst T (sym h) tt)
 nan_root (fin s m e) h = absurd (subst T (sym h) tt)
-
-no_nan : {b : Bool} → b ≡ false → T (not b)
-no_nan h = subst (λ (a : Bool). T (not a)) (sym h) tt
 
 module _ (x : Float) (fit : T (fits binary32 x)) where
   read_back : of_bits binary32 (to_bits binary32 x) ≡ x
@@ -42,17 +38,8 @@ module _ (x : Float) (fit : T (fits binary32 x)) where
   of_root : (r : ℕ) → of_bits binary32 r ≡ square_root binary32 (of_bits binary32 (to_bits binary32 x)) → of_bits binary32 r ≡ square_root binary32 x
   of_root r e = e ∙ ap (square_root binary32) read_back
 
-finite_bits : (r : ℕ) → r < 0x7f80_0000 → T (not (nan_bits binary32 r))
-finite_bits r h = subst (λ (b : Bool). T (not b)) (sym (nan_bits_above binary32 r ∙ le-ltb 2139095040 (r % 2147483648) (omega arith))) tt
-
 pub returns-then-is_nan : goal.returns-then-is_nan
 returns-then-is_nan c = nan_root c.args.x (sym c.is_nan.ensures.value ∙ c.if-is_nan.true)
-
-pub float_to_bits-b : goal.float_to_bits-b
-float_to_bits-b c = no_nan (sym c.is_nan.ensures.value ∙ c.if-is_nan.false)
-
-pub float_from_bits-result : goal.float_from_bits-result
-float_from_bits-result c = finite_bits c.normal_root.result c.normal_root.ensures.1
 
 pub returns-then-b-lt2139095040 : goal.returns-then-b-lt2139095040
 returns-then-b-lt2139095040 c = of_root c.args.x (fits_by c.before.before.before.before) c.normal_root.result c.normal_root.ensures.0
@@ -70,9 +57,6 @@ top c = elim c.if-b-ge8388608.branch [ then-b-ge8388608+else-b-lt2139095040 w �
 
 pub returns-then-b-ge8388608-2 : goal.returns-then-b-ge8388608-2
 returns-then-b-ge8388608-2 c = of_top c.args.x (fits_by c.before.before.before.before.before) (top c) c.if-b-gt2147483648.false
-
-pub float_from_bits-result-2 : goal.float_from_bits-result-2
-float_from_bits-result-2 c = finite_bits c.subnormal_root.result c.subnormal_root.ensures.1
 
 pub returns : goal.returns
 returns c = of_root c.args.x (fits_by c.before.before.before.before.before.before) c.subnormal_root.result c.subnormal_root.ensures.0

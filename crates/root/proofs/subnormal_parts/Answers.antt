@@ -11,14 +11,5 @@ of c = digits c.args.b c.requires.0 c.requires.1
 pub overflow_sub-shift : goal.overflow_sub-shift
 overflow_sub-shift c = let d = (of c).1 in omega (arith, d.0, d.1)
 
-pub overflow_cast-result-2 : goal.overflow_cast-result-2
-overflow_cast-result-2 c = let d = (of c).1 in omega (arith, d.0, d.1)
-
-pub overflow_shl-result : goal.overflow_shl-result
-overflow_shl-result c = let d = (of c).1 in omega (arith, d.0, d.1)
-
-pub overflow_sub-result : goal.overflow_sub-result
-overflow_sub-result c = let d = (of c).1 in omega (arith, d.0, d.1)
-
 pub returns : goal.returns
 returns c = low_normal c.args.b (of c).0 c.requires.1 (of c).1
