@@ -40,6 +40,7 @@ fn clamped_ceiling(b: u32) -> u32
 }
 
 // How many segments a curve takes, from the square of their number by Wang's bound, and whether that was held back: the root is over 1,000.
+#[tactic(auto, using(std::proofs::lemmas::Float::not_nan_f32_bits))]
 pub fn segment_count(squared: f32) -> SegmentCount
     ensures { result ≡ segment_answer squared }
 {

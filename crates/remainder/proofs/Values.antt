@@ -1,4 +1,4 @@
--- The remainder of two finite values, from their sizes (`finite_rem`), and the cases in which the code tells it at once. Assumes nothing.
+-- The remainder of two finite values, from their sizes (`plain_rem` and `turned_rem`, by the sign), and the cases in which the code tells it at once. Assumes nothing.
 use mathlib.Core.Path.{◌≡◌, refl, sym, ap, ◌∙◌, subst}
 use mathlib.Core.Logic.{◌⊎◌, inl, inr}
 use Prim.Native.Nat.{ℕ, zero, suc, ◌+◌, ◌-◌, ◌*◌, ◌/◌, ◌%◌, ◌^◌, ◌≤◌, ◌<◌}
@@ -7,11 +7,11 @@ use native.Mathlib.Omega.{arith}
 use mathlib.Core.Bool.{Bool, true, false, not, cond}
 use lib.Dec.{T, leb, eqb, nltb→le}
 use lib.Pow.{pow_pos, pow_mono, shl_lt}
-use lib.Ieee.{Float, nan, inf, fin, binary32, up, down, size, hid, top, prec, round, neg, rem, fits, is_nan, nan_bits, of_fields, of_bits, to_bits}
+use lib.Ieee.{Float, nan, inf, fin, binary32, up, down, size, hid, top, prec, round, neg, rem, fits, is_nan, of_fields, of_bits, to_bits}
 use lib.Ieee.Bits.{of_bits-to_bits, of_bits-fits, nan_bits_is, nan_bits_above}
 use lib.Ieee.Fits.{up_pos, down_pos, rem-fits, neg-fits}
 use lib.Ieee.Exact.{HasValue, round_exact}
-use borrow.Author.Tests.{le-ltb, ne_eqb}
+use borrow.Author.Tests.{ne_eqb}
 use Rattle.float.specs.Pattern.{magnitude}
 use Rattle.float.proofs.Patterns.{value_fields, value_of}
 use Rattle.remainder.proofs.Sizes.{parts_of, above_zero, scale_mod}
@@ -149,11 +149,6 @@ nan_second (fin s m e) nan h = refl
 nan_second x (inf s) h = absurd (subst T (sym h) tt)
 nan_second x (fin s m e) h = absurd (subst T (sym h) tt)
 
--- the pattern of the NaN that the code answers
-pub not_a_number : of_bits binary32 0x7fc0_0000 ≡ nan
-unfolding of_bits
-not_a_number = refl
-
 of_infinity : (s : Bool) (y : Float) → nan ≡ rem binary32 (inf s) y
 unfolding rem
 of_infinity s y = refl
@@ -210,7 +205,3 @@ module _ (x y : Float) (p : ℕ) (f : T (fits binary32 x)) (g : T (fits binary32
       same (neg (of_bits binary32 p)) (rem binary32 x y) true (magnitude p) (neg-fits binary32 (of_bits binary32 p) (of_bits-fits binary32 p)) (rem-fits binary32 x y f)
       (turned (of_bits binary32 p) false (magnitude p) (2 ^ 149) (value_of p h))
       (subst (λ (b : Bool). HasValue (rem binary32 x y) b (magnitude p) (2 ^ 149)) s rem_is)
-
--- a pattern below the infinity's is no NaN's
-pub no_nan_bits : (p : ℕ) → p < 0x7f80_0000 → T (not (nan_bits binary32 p))
-no_nan_bits p h = subst (λ (b : Bool). T (not b)) (sym (nan_bits_above binary32 p ∙ le-ltb 2139095040 (p % 2147483648) (omega arith))) tt

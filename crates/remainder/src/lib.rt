@@ -15,7 +15,8 @@ struct Size {
     zeros: u32,
 }
 
-// The size of a finite pattern whose sign is clear.
+// The size of a finite pattern whose sign is clear. That a pattern is finite, here and below, is a bound on one number: as a clause it is shorter than a type
+// for it would be.
 fn size_of(b: u32) -> Size
     requires { b < 0x7f80_0000 }
     ensures { Parts b result.digits result.zeros }
@@ -32,25 +33,26 @@ fn size_of(b: u32) -> Size
     }
 }
 
-// What n with k zeros behind it leaves when it is divided by m.
-fn rest_of(n: u32, k: u32, m: u32) -> u32
+// What a size leaves when it is divided by m.
+fn rest_of(n: Size, m: u32) -> u32
     requires { (0 < m) × (m < 2 ^ 24) }
-    ensures { (result ≡ n * 2 ^ k % m) × (result < m) }
+    ensures { (result ≡ n.digits * 2 ^ n.zeros % m) × (result < m) }
 {
-    let mut r = n % m;
-    for _zero in 0..k {
+    let mut r = n.digits % m;
+    for _zero in 0..n.zeros {
         r = r * 2 % m;
     }
     r
 }
 
 // The pattern of a size: its digits are moved up until there are 24, or no zero is left.
-fn pattern_of(digits: u32, zeros: u32) -> u32
-    requires { (digits < 2 ^ 24) × (zeros ≤ 253) }
-    ensures { (magnitude result ≡ digits * 2 ^ zeros) × (result < 0x7f80_0000) }
+fn pattern_of(s: Size) -> u32
+    requires { (s.digits < 2 ^ 24) × (s.zeros ≤ 253) }
+    ensures { (magnitude result ≡ s.digits * 2 ^ s.zeros) × (result < 0x7f80_0000) }
 {
-    let mut r = digits;
-    let mut k = zeros;
+    let mut r = s.digits;
+    let mut k = s.zeros;
+    // It goes turn by turn, since of 0, which must end with no zero left, no number of places could be read off.
     while 0 < k && r < 0x80_0000 {
         r *= 2;
         k -= 1;
@@ -68,11 +70,13 @@ fn rest_pattern(a: u32, m: u32) -> u32
     if x.zeros < y.zeros {
         return a;
     }
-    let r = rest_of(x.digits, x.zeros - y.zeros, y.digits);
-    pattern_of(r, y.zeros)
+    let zeros = x.zeros - y.zeros;
+    let digits = rest_of(Size { zeros, ..x }, y.digits);
+    pattern_of(Size { digits, ..y })
 }
 
 // a % m.
+#[tactic(auto, using(std::proofs::lemmas::Float::not_nan_f32_bits))]
 pub fn rem(a: f32, m: f32) -> f32
     ensures { result ≡ rem binary32 a m }
 {

@@ -3,16 +3,12 @@ use mathlib.Core.Path.{◌≡◌, refl}
 use lib.IntN.{pos}
 use lib.Ieee.{binary32, of_int, of_bits}
 use Rattle.float.specs.Arith.{f1000}
-use Rattle.float.proofs.Floats.{low_no_nan}
 use Rattle.count.proofs.segment_count.Goals as goal
 
 -- the limit as a float
 limit : of_int binary32 (pos 1000) ≡ f1000
 unfolding of_int of_bits
 limit = refl
-
-pub float_from_bits-result : goal.float_from_bits-result
-float_from_bits-result c = low_no_nan binary32 c.count_root-root.result c.count_root-root.ensures.range
 
 pub returns : goal.returns
 returns c = let r = c.count_root-root.ensures in rw (c.clamped_ceiling.ensures, limit, r.count, r.held)

@@ -10,7 +10,7 @@ loop-zero-preserved c =
     let l = c.loop-zero in
     let m = c.args.m in (
       ap (λ (r : ℕ). r * 2 % m) l.invariant.0
-          ∙ mul-mod_first (c.args.n * 2 ^ l._zero) 2 m
-          ∙ ap (λ (r : ℕ). r % m) (one_zero_more c.args.n l._zero),
+          ∙ mul-mod_first (c.args.n.digits * 2 ^ l._zero) 2 m
+          ∙ ap (λ (r : ℕ). r % m) (one_zero_more c.args.n.digits l._zero),
       mod-lt (l.r * 2) c.requires.0,
     )

@@ -1,12 +1,8 @@
 use mathlib.Core.Path.{◌≡◌, refl, sym, ◌∙◌}
 use lib.Ieee.{nan, binary32, of_bits}
+use Rattle.float.proofs.Small.{not_a_number}
 use Rattle.curve.specs.Count.{bend}
 use Rattle.wang.proofs.second_difference_magnitude.Goals as goal
-
--- the pattern of the code's NaN
-not_a_number : of_bits binary32 0x7fc0_0000 ≡ nan
-unfolding of_bits
-not_a_number = refl
 
 pub returns-then-is_nan : goal.returns-then-is_nan
 unfolding bend
