@@ -1,5 +1,4 @@
-use mathlib.Core.Path.{◌≡◌, refl, sym, ◌∙◌}
-use lib.Ieee.{nan, binary32, of_bits}
+use mathlib.Core.Path.{sym, ◌∙◌}
 use Rattle.float.proofs.Small.{not_a_number}
 use Rattle.curve.specs.Count.{bend}
 use Rattle.wang.proofs.second_difference_magnitude.Goals as goal
