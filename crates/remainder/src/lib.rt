@@ -17,6 +17,7 @@ struct Size {
 
 // The size of a finite pattern whose sign is clear. That a pattern is finite, here and below, is a bound on one number: as a clause it is shorter than a type
 // for it would be.
+#[tactic(auto, using(crate::proofs::Sizes::low_parts, crate::proofs::Sizes::high_parts))]
 fn size_of(b: u32) -> Size
     requires { b < 0x7f80_0000 }
     ensures { Parts b result.digits result.zeros }
@@ -103,6 +104,7 @@ pub fn rem(a: f32, m: f32) -> f32
 }
 
 // a % m, and |m| more where that is below zero.
+#[tactic(auto, unfolding(float::specs::Small::rem_euclid))]
 pub fn rem_euclid(a: f32, m: f32) -> f32
     ensures { result ≡ rem_euclid a m }
 {

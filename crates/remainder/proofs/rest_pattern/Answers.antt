@@ -11,9 +11,6 @@ returns-then-x-y c =
     let y = c.size_of-y in
     (sym (mod-eq_of_lt (smaller c.args.a x.result.digits x.result.zeros c.args.m y.result.digits y.result.zeros x.ensures y.ensures c.if-x-y.true)), c.requires.0)
 
-pub rest_of-digits-requires : goal.rest_of-digits-requires
-rest_of-digits-requires c = (c.size_of-y.ensures.some c.requires.1, c.size_of-y.ensures.most)
-
 pub returns : goal.returns
 returns c =
     let x = c.size_of-x in
