@@ -1,8 +1,12 @@
-use Rattle.std.proofs.Common.{sym, ◌∙◌}
+use Rattle.std.proofs.Common.{◌≡◌, sym, ◌∙◌}
 use Rattle.std.proofs.lemmas.Result.{err_from_is_err_and}
+use Rattle.path.specs.Segment.{segments}
 use Rattle.segments.proofs.Answer.{few}
-use Rattle.flatten.proofs.Call.{odd_out, bad_path, few_points, few_ends, few_marks, has_room, done}
-use Rattle.flatten.proofs.flatten.Goals.{then-out-n-via-then-out-n, then-out-n-via-else-out-n+then-ends-t, then-out-n-via-else-out-n+else-ends-t+then-marks-t}
+use Rattle.polyline.specs.declared.Tally.{Tally}
+use Rattle.polyline.specs.Flatten.{nowhere}
+use Rattle.measure.specs.Measure.{none, measured}
+use Rattle.flatten.proofs.Call.{Measured, odd_out, bad_path, few_points, few_ends, few_marks, has_room, done}
+use Rattle.flatten.proofs.flatten.Goals.{In_ok-path, then-out-n-via-then-out-n, then-out-n-via-else-out-n+then-ends-t, then-out-n-via-else-out-n+else-ends-t+then-marks-t}
 use Rattle.flatten.proofs.flatten.Goals as goal
 
 pub returns-then-out-eq1 : goal.returns-then-out-eq1
@@ -17,23 +21,28 @@ returns-in_err-path c =
 pub measure-t-requires : goal.measure-t-requires
 measure-t-requires c = record { few = few _ _ _ (sym c.new.ensures ∙ c.in_ok-path.was) }
 
+-- what is known once the path that was read is measured
+known : (c : In_ok-path) {t : Tally} → t ≡ measured c.args.tolerance none nowhere (segments c.in_ok-path.path.verbs c.in_ok-path.path.points) →
+    Measured c.args.verbs.now c.args.points.now c.args.tolerance c.args.out.now c.in_ok-path.path t
+known c e = record { even = c.if-out-eq1.false; read = sym c.new.ensures ∙ c.in_ok-path.was; same = e }
+
 pub returns-then-out-n : goal.returns-then-out-n
 returns-then-out-n c =
-    let a = c.args in
+    let m = known (goal.at.returns-then-out-n c).In_ok-path c.measure-t.ensures.same in
     elim c.then-out-n.branch [
-      | then-out-n-via-then-out-n w ↦ few_points a.verbs.now a.points.now a.tolerance _ _ _ c.if-out-eq1.false _ (sym c.new.ensures ∙ c.in_ok-path.was) _ c.measure-t.ensures.same w.if-out-n.true
-      | then-out-n-via-else-out-n+then-ends-t w ↦ few_ends a.verbs.now a.points.now a.tolerance _ _ _ c.if-out-eq1.false _ (sym c.new.ensures ∙ c.in_ok-path.was) _ c.measure-t.ensures.same w.if-out-n.false w.if-ends-t.true
-      | then-out-n-via-else-out-n+else-ends-t+then-marks-t w ↦ few_marks a.verbs.now a.points.now a.tolerance _ _ _ c.if-out-eq1.false _ (sym c.new.ensures ∙ c.in_ok-path.was) _ c.measure-t.ensures.same w.if-out-n.false w.if-ends-t.false w.if-marks-t.true
+      | then-out-n-via-then-out-n w ↦ few_points m _ _ w.if-out-n.true
+      | then-out-n-via-else-out-n+then-ends-t w ↦ few_ends m _ _ w.if-out-n.false w.if-ends-t.true
+      | then-out-n-via-else-out-n+else-ends-t+then-marks-t w ↦ few_marks m _ _ w.if-out-n.false w.if-ends-t.false w.if-marks-t.true
     ]
 
 pub write_path-requires : goal.write_path-requires
 write_path-requires c =
-    let a = c.args in
-    let r = has_room a.verbs.now a.points.now a.tolerance a.out.now a.ends.now a.marks.now c.if-out-eq1.false _ (sym c.new.ensures ∙ c.in_ok-path.was) _ c.measure-t.ensures.same c.if-out-n.false c.if-ends-t.false c.if-marks-t.false in
+    let m = known (goal.at.write_path-requires c).In_ok-path c.measure-t.ensures.same in
+    let r = has_room m c.args.ends.now c.args.marks.now c.if-out-n.false c.if-ends-t.false c.if-marks-t.false in
     record { out = r.0; ends = r.1; marks = r.2 }
 
 pub returns : goal.returns
 returns c =
-    let a = c.args in
     let w = c.write_path.ensures in
-    done a.verbs.now a.points.now a.tolerance _ _ _ c.if-out-eq1.false _ (sym c.new.ensures ∙ c.in_ok-path.was) _ c.measure-t.ensures.same c.if-out-n.false c.if-ends-t.false c.if-marks-t.false _ _ _ w.out w.ends w.marks
+    let m = known (goal.at.returns c).In_ok-path c.measure-t.ensures.same in
+    done m _ _ c.if-out-n.false c.if-ends-t.false c.if-marks-t.false _ _ _ w.out w.ends w.marks
