@@ -1,12 +1,8 @@
-use Rattle.std.proofs.Common.{◌≡◌, sym, ◌∙◌}
+use Rattle.std.proofs.Common.{sym, ◌∙◌}
 use Rattle.std.proofs.lemmas.Result.{err_from_is_err_and}
-use Rattle.path.specs.Segment.{segments}
 use Rattle.segments.proofs.Answer.{few}
-use Rattle.polyline.specs.declared.Tally.{Tally}
-use Rattle.polyline.specs.Flatten.{nowhere}
-use Rattle.measure.specs.Measure.{none, measured}
 use Rattle.flatten.proofs.Call.{Measured, odd_out, bad_path, few_points, few_ends, few_marks, has_room, done}
-use Rattle.flatten.proofs.flatten.Goals.{In_ok-path, then-out-n-via-then-out-n, then-out-n-via-else-out-n+then-ends-t, then-out-n-via-else-out-n+else-ends-t+then-marks-t}
+use Rattle.flatten.proofs.flatten.Goals.{After-measure-t, then-out-n-via-then-out-n, then-out-n-via-else-out-n+then-ends-t, then-out-n-via-else-out-n+else-ends-t+then-marks-t}
 use Rattle.flatten.proofs.flatten.Goals as goal
 
 pub returns-then-out-eq1 : goal.returns-then-out-eq1
@@ -21,14 +17,13 @@ returns-in_err-path c =
 pub measure-t-requires : goal.measure-t-requires
 measure-t-requires c = record { few = few _ _ _ (sym c.new.ensures ∙ c.in_ok-path.was) }
 
--- what is known once the path that was read is measured
-known : (c : In_ok-path) {t : Tally} → t ≡ measured c.args.tolerance none nowhere (segments c.in_ok-path.path.verbs c.in_ok-path.path.points) →
-    Measured c.args.verbs.now c.args.points.now c.args.tolerance c.args.out.now c.in_ok-path.path t
-known c e = record { even = c.if-out-eq1.false; read = sym c.new.ensures ∙ c.in_ok-path.was; same = e }
+-- what is known once the path is read and measured
+known : (c : After-measure-t) → Measured c.args.verbs.now c.args.points.now c.args.tolerance c.args.out.now c.in_ok-path.path c.measure-t.result
+known c = record { even = c.if-out-eq1.false; read = sym c.new.ensures ∙ c.in_ok-path.was; same = c.measure-t.ensures.same }
 
 pub returns-then-out-n : goal.returns-then-out-n
 returns-then-out-n c =
-    let m = known (goal.at.returns-then-out-n c).In_ok-path c.measure-t.ensures.same in
+    let m = known (goal.at.returns-then-out-n c).After-measure-t in
     elim c.then-out-n.branch [
       | then-out-n-via-then-out-n w ↦ few_points m _ _ w.if-out-n.true
       | then-out-n-via-else-out-n+then-ends-t w ↦ few_ends m _ _ w.if-out-n.false w.if-ends-t.true
@@ -37,12 +32,12 @@ returns-then-out-n c =
 
 pub write_path-requires : goal.write_path-requires
 write_path-requires c =
-    let m = known (goal.at.write_path-requires c).In_ok-path c.measure-t.ensures.same in
+    let m = known (goal.at.write_path-requires c).After-measure-t in
     let r = has_room m c.args.ends.now c.args.marks.now c.if-out-n.false c.if-ends-t.false c.if-marks-t.false in
     record { out = r.0; ends = r.1; marks = r.2 }
 
 pub returns : goal.returns
 returns c =
     let w = c.write_path.ensures in
-    let m = known (goal.at.returns c).In_ok-path c.measure-t.ensures.same in
+    let m = known (goal.at.returns c).After-measure-t in
     done m _ _ c.if-out-n.false c.if-ends-t.false c.if-marks-t.false _ _ _ w.out w.ends w.marks
