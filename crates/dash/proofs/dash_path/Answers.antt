@@ -37,20 +37,20 @@ returns-in_err-f c =
     (is_cut a.verbs.now a.points.now a.rule a.intervals.now a.phase a.tolerance a.scratch.now a.ends.now a.marks.now a.dash_verbs.now a.dash_points.now z (sym c.is_cut.ensures ∙ c.if-not-is_cut.false) _
     (scratch_full a.verbs.now a.points.now a.rule a.intervals.now a.phase a.tolerance a.scratch.now a.ends.now a.marks.now a.dash_verbs.now a.dash_points.now u.misfit _ _ _ u.scratch_is u.ends_are u.marks_are))
 
-pub overflow_mul-kept : goal.overflow_mul-kept
-overflow_mul-kept c = omega (arith, (kept (goal.at.overflow_mul-kept c).In_ok-f).room, c.flatten.auto, c.well_formed)
-
 pub slice_bounds-kept-end : goal.slice_bounds-kept-end
 slice_bounds-kept-end c = (kept (goal.at.slice_bounds-kept-end c).In_ok-f).room
 
 pub slice_bounds-kept-end-2 : goal.slice_bounds-kept-end-2
-slice_bounds-kept-end-2 c = sym (length-take-le _ _ (kept (goal.at.slice_bounds-kept-end-2 c).In_ok-f).room)
+slice_bounds-kept-end-2 c = sym (length-take-le _ _ (slice_bounds-kept-end c))
 
 pub slice_bounds-kept-end-3 : goal.slice_bounds-kept-end-3
 slice_bounds-kept-end-3 c = (kept (goal.at.slice_bounds-kept-end-3 c).In_ok-f).rooms
 
 pub slice_bounds-kept-end-4 : goal.slice_bounds-kept-end-4
-slice_bounds-kept-end-4 c = sym (length-take-le _ _ (kept (goal.at.slice_bounds-kept-end-4 c).In_ok-f).rooms)
+slice_bounds-kept-end-4 c = sym (length-take-le _ _ (slice_bounds-kept-end-3 c))
+
+pub overflow_mul-kept : goal.overflow_mul-kept
+overflow_mul-kept c = omega (arith, slice_bounds-kept-end c, c.flatten.auto, c.well_formed)
 
 pub invariant_of-kept : goal.invariant_of-kept
 invariant_of-kept c = record { ordered = (kept (goal.at.invariant_of-kept c).In_ok-f).ordered }

@@ -10,17 +10,18 @@ use Rattle.builder.proofs.PathBuilder.conic_to.Goals as goal
 pub returns-then-is_straight : goal.returns-then-is_straight
 returns-then-is_straight c = c.line_to.ensures ∙ conic_line _ _ _ _ _ _ (sym c.is_straight.ensures ∙ c.if-is_straight.true)
 
-pub overflow_add-lead : goal.overflow_add-lead
-overflow_add-lead c = omega (arith, quads_room _ _ c.in-Ok.ensures c.lead_of-lead.ensures)
-
-pub overflow_mul-quads : goal.overflow_mul-quads
-overflow_mul-quads c = omega (arith, quads_room _ _ c.in-Ok.ensures c.lead_of-lead.ensures)
-
-pub overflow_add-lead-in-Ok : goal.overflow_add-lead-in-Ok
-overflow_add-lead-in-Ok c = omega (arith, quads_room _ _ c.in-Ok.ensures c.lead_of-lead.ensures)
-
+-- first the room behind the quads, by which the sums fit too
 pub past-next-requires : goal.past-next-requires
 past-next-requires c = quads_room _ _ c.in-Ok.ensures c.lead_of-lead.ensures
+
+pub overflow_add-lead : goal.overflow_add-lead
+overflow_add-lead c = omega (arith, past-next-requires c)
+
+pub overflow_mul-quads : goal.overflow_mul-quads
+overflow_mul-quads c = omega (arith, past-next-requires c)
+
+pub overflow_add-lead-in-Ok : goal.overflow_add-lead-in-Ok
+overflow_add-lead-in-Ok c = omega (arith, past-next-requires c)
 
 pub returns-in-Ok : goal.returns-in-Ok
 returns-in-Ok c =
