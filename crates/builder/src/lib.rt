@@ -301,6 +301,7 @@ impl PathBuilder {
         self.answer(room.and(Ok(0)))
     }
 
+    #[tactic(auto, using(crate::proofs::Lays::conic_line))]
     pub fn conic_to(
         self,
         verbs: &mut [u8],

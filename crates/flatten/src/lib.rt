@@ -13,6 +13,7 @@ use segments::Path;
 
 // Flattens a path into points, end to end, the number of points at which each polyline ends, and its mark: 1 if the last verb of its subpath is a close,
 // even where no closing point was added, else 0. The outputs are lent apart, as C lends them.
+#[tactic(auto, using(crate::proofs::Call::odd_out, crate::proofs::Call::bad_path, segments::proofs::Answer::few))]
 pub fn flatten(
     verbs: &[u8],
     points: &[f32],

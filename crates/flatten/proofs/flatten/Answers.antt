@@ -1,21 +1,7 @@
 use Rattle.std.proofs.Common.{sym, ◌∙◌}
-use Rattle.std.proofs.lemmas.Result.{err_from_is_err_and}
-use Rattle.segments.proofs.Answer.{few}
-use Rattle.flatten.proofs.Call.{Measured, odd_out, bad_path, few_points, few_ends, few_marks, has_room, done}
+use Rattle.flatten.proofs.Call.{Measured, few_points, few_ends, few_marks, has_room, done}
 use Rattle.flatten.proofs.flatten.Goals.{After-measure-t, then-out-n-via-then-out-n, then-out-n-via-else-out-n+then-ends-t, then-out-n-via-else-out-n+else-ends-t+then-marks-t}
 use Rattle.flatten.proofs.flatten.Goals as goal
-
-pub returns-then-out-eq1 : goal.returns-then-out-eq1
-returns-then-out-eq1 c = let a = c.args in odd_out a.verbs.now a.points.now a.tolerance _ _ _ c.if-out-eq1.true
-
-pub returns-in_err-path : goal.returns-in_err-path
-returns-in_err-path c =
-    let a = c.args in
-    let p = err_from_is_err_and c.from_residual.result c.from_residual.ensures.1 in
-    rw (p.1, p.2) (bad_path a.verbs.now a.points.now a.tolerance _ _ _ c.if-out-eq1.false _ (sym c.new.ensures ∙ c.in_err-path.was))
-
-pub measure-t-requires : goal.measure-t-requires
-measure-t-requires c = record { few = few _ _ _ (sym c.new.ensures ∙ c.in_ok-path.was) }
 
 -- what is known once the path is read and measured
 known : (c : After-measure-t) → Measured c.args.verbs.now c.args.points.now c.args.tolerance c.args.out.now c.in_ok-path.path c.measure-t.result

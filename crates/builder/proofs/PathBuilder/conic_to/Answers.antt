@@ -4,11 +4,8 @@ use native.Mathlib.Omega.{arith}
 use Rattle.std.specs.Prelude.{Ok, Err}
 use Rattle.halves.proofs.Laws.{quads_quads}
 use Rattle.bending.proofs.Laws.{curved_fits}
-use Rattle.builder.proofs.Lays.{draws_quads, opened, conic_line, conic_called, past_quads, quads_room}
+use Rattle.builder.proofs.Lays.{draws_quads, opened, conic_called, past_quads, quads_room}
 use Rattle.builder.proofs.PathBuilder.conic_to.Goals as goal
-
-pub returns-then-is_straight : goal.returns-then-is_straight
-returns-then-is_straight c = c.line_to.ensures ∙ conic_line _ _ _ _ _ _ (sym c.is_straight.ensures ∙ c.if-is_straight.true)
 
 -- first the room behind the quads, by which the sums fit too
 pub past-next-requires : goal.past-next-requires
