@@ -32,9 +32,9 @@ returns-in_err-f c =
     let z = sym c.check.ensures ∙ c.in_ok-check.was in
     let n = none_refused _ _ _ _ _ z in
     let p = err_from_is_err_and c.from_residual-in_err-f.result c.from_residual-in_err-f.ensures.1 in
-    let u = full a.verbs.now a.points.now a.tolerance a.scratch.now a.ends.now a.marks.now n.0 n.1 f.result _ _ _ f.ensures _ c.in_err-f.was in
+    let u = full _ _ _ _ _ _ n.0 n.1 f.result _ _ _ f.ensures _ c.in_err-f.was in
     rw (p.1, p.2, u.refusal)
-    (is_cut a.verbs.now a.points.now a.rule a.intervals.now a.phase a.tolerance a.scratch.now a.ends.now a.marks.now a.dash_verbs.now a.dash_points.now z (sym c.is_cut.ensures ∙ c.if-not-is_cut.false) _
+    (is_cut _ _ _ _ _ _ _ _ _ _ _ z (sym c.is_cut.ensures ∙ c.if-not-is_cut.false) _
     (scratch_full a.verbs.now a.points.now a.rule a.intervals.now a.phase a.tolerance a.scratch.now a.ends.now a.marks.now a.dash_verbs.now a.dash_points.now u.misfit _ _ _ u.scratch_is u.ends_are u.marks_are))
 
 pub slice_bounds-kept-end : goal.slice_bounds-kept-end
@@ -62,8 +62,7 @@ returns c =
     let r = c.in_ok-f.f in
     let b = (goal.at.returns c).In_ok-f in
     let k = kept b in
-    is_cut a.verbs.now a.points.now a.rule a.intervals.now a.phase a.tolerance a.scratch.now a.ends.now a.marks.now a.dash_verbs.now a.dash_points.now
-    (passed b) (sym c.is_cut.ensures ∙ c.if-not-is_cut.false) _
+    is_cut _ _ _ _ _ _ _ _ _ _ _ (passed b) (sym c.is_cut.ensures ∙ c.if-not-is_cut.false) _
     (scratch_kept a.verbs.now a.points.now a.rule a.intervals.now a.phase a.tolerance a.scratch.now a.ends.now a.marks.now a.dash_verbs.now a.dash_points.now k.fit _ _ _ k.scratch_is k.ends_are k.marks_are
     (take (2 * r.points) f.new.out) (take r.polylines f.new.ends) k.points k.polylines
     c.intervals-2.result.now (c.intervals-2.ensures ∙ c.cycle_of-cycle.ensures) r.held k.held _ _ _ c.cut_scratch.ensures)
