@@ -15,7 +15,7 @@ use path::Refusal;
 use std::fmt;
 use turns::Convexity;
 
-// Plays one call.
+// Plays one call. The buffers stay two arguments, as the builder's calls have them.
 #[tactic(auto, unfolding(builder::specs::Build::called))]
 pub fn play(b: PathBuilder, call: Call, verbs: &mut [u8], points: &mut [f32]) -> Reply
     ensures { outcome result verbs.new points.new ≡ called b verbs.old points.old call }

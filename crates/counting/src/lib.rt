@@ -1,4 +1,4 @@
-// A pen that counts what a walk draws, and works out no point.
+// A pen that counts what a walk draws, and works out no point. The two buffers stay two arguments, as every pen has them.
 #![tactic(auto)]
 
 ghost use Rattle.std.specs.Prelude.{◌≡◌, ℕ, Bool, false, ◌^◌, ◌<◌, List, Float};

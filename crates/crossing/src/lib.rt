@@ -1,5 +1,5 @@
 // What crosses to C and back: the types as C has them, and their making from the library's own and back. C has no Option and no Result: a flag or a number stands beside the
-// value there, and the value is 0 where the number refuses.
+// value there, and where the number refuses the value is 0, false, the empty rect, Concave, or the state as it came.
 #![tactic(auto)]
 
 ghost use Rattle.std.specs.Prelude.{◌≡◌, ◌≤◌, length, IfOk};
@@ -322,6 +322,7 @@ pub struct HzLineStyle {
 }
 
 impl HzLineStyle {
+    // No `From`: it asks that the intervals fit.
     pub fn new(style: Result<&[f32], Refusal>) -> HzLineStyle
         requires { IfOk style (λ s. length s.now ≤ max_intervals) }
         ensures { result ≡ style_out (result_map_both (λ s. s.now) (λ r. r) style.entry) }

@@ -1,4 +1,4 @@
-// A pen that lays what a walk draws into the two dash buffers.
+// A pen that lays what a walk draws into the two dash buffers, which stay two arguments, as every pen has them.
 #![tactic(auto)]
 
 ghost use Rattle.std.specs.Prelude.{◌≡◌, ℕ, Bool, false, ◌+◌, ◌*◌, ◌<◌, List, length, Float};

@@ -37,7 +37,7 @@ pub record SubpathLaws (tol : Float) (ss : List Segment) : Type 0 where
   -- and one pass reads them
   pub one_pass : marks_out ss ≡ marks_from false nowhere ss
 
--- a refused call says its number and nothing else, no totals among it, and leaves the three lent outputs as they were
+-- a refused call says its refusal and nothing else, no totals among it, and leaves the three lent outputs as they were
 pub record RefusalLaws (out : List Float) (ends marks : List ℕ) (r : Outcome) : Type 0 where
   pub none : (t : Flattened) → r.answer ≡ Ok t → ⊥
   pub same_floats : r.floats ≡ out

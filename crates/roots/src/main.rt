@@ -16,7 +16,7 @@ struct Line {
     answer: SegmentCount,
 }
 
-// Whether a line's root, its count and whether that was held back are what the library gives.
+// Whether a line's root, its count and whether that was held back are what the library gives: three answers, none beside a value.
 #[derive(Clone, Copy)]
 struct Found {
     root: bool,

@@ -30,7 +30,7 @@ fn put_if(out: &mut [f32], at: usize, wanted: bool, p: Vec2) -> usize
     at
 }
 
-// Writes the inner points of a curve of n lines, from point `at` on. A function of its own in the machine too: the compiler then works out x and y side by side.
+// Writes the inner points of a curve of n lines, from point `at` on. That n is from 1 to 1,000 is a clause, here and below: a `SegmentCount` may be made with any number. A function of its own in the machine too: the compiler then works out x and y side by side.
 // The place goes by i: of what the chunks of two floats are given (tried: `zip` with `chunks_exact_mut`) nothing is known behind the loop.
 #[inline(never)]
 fn write_inner<F: Fn(f32) -> Vec2>(out: &mut [f32], at: usize, curve: F, n: u16)
@@ -99,7 +99,7 @@ fn write_segment(out: &mut [f32], at: usize, tolerance: f32, w: Spot, s: Segment
     }
 }
 
-// The mark of a subpath, by the verbs up to its end.
+// The mark of a subpath, by the verbs up to its end: a byte, as the buffer of marks holds it.
 fn mark(verbs: &[u8]) -> u8
     ensures { result ≡ last_mark verbs.now }
 {
