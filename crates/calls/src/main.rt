@@ -1,40 +1,86 @@
 // Builder calls played: the paper's conic of 64 quads, full buffers, one short of each size, the limits, an odd float buffer, states that 7 meets.
-// Standard input has the calls, in lines of 82 letters: a name that a colon ends, at place 39 a letter, and from place 40 on six fields of 7 letters,
-// each a sign and a number. A line `B` lends buffers, from a byte to a byte and from a float to a float of those that all calls share, to a fresh
-// builder and the lines behind it. Small letters are calls: `m` move, `l` line, `q` quad, `k` conic, `c` cubic, `z` close. `H` hands in a state: its
-// counts, whether it is started, and the pen; `N` is a fresh one. `R` sets the fill rule and `A` the rounded rectangle; `P` and `T` ask for the point
-// and the rectangle; `S` shows the buffers from a byte and a float on, and `Y` one byte and one float.
+// Standard input has the calls, in lines of 83 bytes: a name that a colon ends, at place 39 a letter, and from place 40 on six fields of 7 bytes, each a
+// sign and a number. A line `B` lends buffers, from a byte to a byte and from a float to a float of those that all calls share, to a fresh builder and
+// the lines behind it, and says how many these are. Small letters are calls: `m` move, `l` line, `q` quad, `k` conic, `c` cubic, and every other close.
+// `H` hands in a state: its counts, whether it is started, and the pen; `N` is a fresh one. `R` sets the fill rule and `A` the rounded rectangle; `P` and
+// `T` ask for the point and the rectangle; `S` shows the buffers from a byte and a float on, and `Y` one byte and one float.
 // A line is written for each call with a name: its number, a conic's quads, both counts, whether it is started, the latest move's point and the pen.
 #![tactic(auto)]
 
+ghost use Rattle.std.specs.Prelude.{◌≤◌};
+
 use builder::{Call, PathBuilder, Reply, RoundedRect};
-use common::YesNo;
+use common::{YesNo, read_record};
 use path::{FillRule, Refusal, number_of};
 use rect::Rect;
-use std::io::{BufRead, BufReader, ErrorKind};
+use std::io::{BufReader, Read};
 use std::{fmt, io};
 use vec2::Vec2;
 
 // ---- the list
 
-// The fields of a line that are still to be read. What is blank, or is not there, is 0.
-#[derive(Clone, Copy)]
-struct Fields<'a>(&'a str);
+// The bytes of a line, the one that ends it too.
+const LINE: usize = 83;
 
-impl Fields<'_> {
-    // The next field's sign, and its number.
-    fn next(&mut self) -> Option<(&str, &str)> {
-        let (field, rest) = self.0.split_at_checked(7)?;
-        self.0 = rest;
-        let (sign, number) = field.split_at_checked(1)?;
-        Some((sign, number.trim()))
+// The most lines `B`.
+const MOST_LENT: usize = 100;
+
+// What a byte says; one that is no digit says 0.
+fn digit(byte: u8) -> u16
+    ensures { result ≤ 9 }
+{
+    match byte {
+        b'0'..=b'9' => u16::from(byte - b'0'),
+        _ => 0,
+    }
+}
+
+fn pair(tens: u8, ones: u8) -> u16
+    ensures { result ≤ 99 }
+{
+    10 * digit(tens) + digit(ones)
+}
+
+// A sign, and six digits.
+#[derive(Clone, Copy)]
+struct Field([u8; 7]);
+
+impl Field {
+    fn count(self) -> usize
+        ensures { result ≤ 999999 }
+    {
+        let [_, a, b, c, d, e, f] = self.0;
+        10_000 * usize::from(pair(a, b)) + 100 * usize::from(pair(c, d)) + usize::from(pair(e, f))
     }
 
-    fn count(&mut self) -> usize {
-        let Some((_, number)) = self.next() else {
-            return 0;
+    // `nan`, or the whole number of the last four digits with its sign.
+    fn float(self) -> f32 {
+        let [sign, _, _, c, d, e, f] = self.0;
+        if f == b'n' {
+            return f32::NAN;
+        }
+        let x = f32::from(100 * pair(c, d) + pair(e, f));
+        if sign == b'-' { -x } else { x }
+    }
+}
+
+// The fields of a line that are still to be read. One that is not there is blank.
+#[derive(Clone, Copy)]
+struct Fields<'a>(&'a [u8]);
+
+impl Fields<'_> {
+    fn next(&mut self) -> Field {
+        let Some((field, rest)) = self.0.split_first_chunk() else {
+            return Field([b' '; 7]);
         };
-        number.parse().unwrap_or(0)
+        self.0 = rest;
+        Field(*field)
+    }
+
+    fn count(&mut self) -> usize
+        ensures { result ≤ 999999 }
+    {
+        self.next().count()
     }
 
     fn part(&mut self) -> Part {
@@ -45,11 +91,7 @@ impl Fields<'_> {
     }
 
     fn float(&mut self) -> f32 {
-        let Some((sign, number)) = self.next() else {
-            return 0.0;
-        };
-        let x = number.parse().unwrap_or(0.0);
-        if sign == "-" { -x } else { x }
+        self.next().float()
     }
 
     fn point(&mut self) -> Vec2 {
@@ -63,33 +105,33 @@ impl Fields<'_> {
 
 #[derive(Clone, Copy)]
 struct Line<'a> {
-    name: Option<&'a str>,
-    letter: &'a str,
+    name: Option<&'a [u8]>,
+    letter: u8,
     fields: Fields<'a>,
 }
 
 impl<'a> Line<'a> {
-    fn parse(text: &'a str) -> Option<Line<'a>> {
-        let (head, fields) = text.split_at_checked(40)?;
-        let (name, letter) = head.split_at_checked(39)?;
-        Some(Line {
-            name: name.split_once(':').map(|(name, _)| name),
-            letter,
-            fields: Fields(fields),
-        })
+    // A line that begins with a space has no name, and where no colon ends it, the name is the whole line.
+    fn parse(text: &'a [u8; LINE]) -> Line<'a> {
+        let colon = text.iter().position(|byte| *byte == b':').unwrap_or(LINE);
+        let name = text.get(..colon).unwrap_or(text);
+        Line {
+            name: (text[0] != b' ').then_some(name),
+            letter: text[39],
+            fields: Fields(&text[40..]),
+        }
     }
 
+    // The call of a small letter.
     fn call(self) -> Option<Call> {
         let mut fields = self.fields;
         match self.letter {
-            "m" => Some(Call::MoveTo(fields.point())),
-            "l" => Some(Call::LineTo(fields.point())),
-            "q" => Some(Call::QuadTo(fields.point(), fields.point())),
-            "k" => Some(Call::ConicTo(fields.point(), fields.point(), fields.float())),
-            "c" => Some(Call::CubicTo(fields.point(), fields.point(), fields.point())),
-            "z" => Some(Call::Close),
-            "R" => Some(Call::WithFillRule(FillRule::EvenOdd)),
-            "A" => Some(Call::AsRoundedRect(fields.rect(), fields.float())),
+            b'm' => Some(Call::MoveTo(fields.point())),
+            b'l' => Some(Call::LineTo(fields.point())),
+            b'q' => Some(Call::QuadTo(fields.point(), fields.point())),
+            b'k' => Some(Call::ConicTo(fields.point(), fields.point(), fields.float())),
+            b'c' => Some(Call::CubicTo(fields.point(), fields.point(), fields.point())),
+            b'a'.. => Some(Call::Close),
             _ => None,
         }
     }
@@ -150,11 +192,12 @@ impl fmt::Display for Quads {
     }
 }
 
-fn print_reply(rt: &impl Print, name: &str, r: Reply) -> io::Result<()> {
+fn print_reply(rt: &impl Print, name: &[u8], r: Reply) -> io::Result<()> {
     let b = r.state;
     let start = Point(Vec2::new(b.start_x, b.start_y));
     let pen = Point(Vec2::new(b.pen_x, b.pen_y));
-    print!(rt; "{name}: {}", Quads(r.quads))?;
+    rt.write_all(name)?;
+    print!(rt; ": {}", Quads(r.quads))?;
     print!(rt;
         " verbs {} points {} started {}",
         b.verbs,
@@ -200,12 +243,12 @@ fn print_buffers(rt: &impl Print, line: Line, verbs: &[u8], points: &[f32]) -> i
     println!(rt;)
 }
 
+// Byte 1, a space where it is not lent, and float 5.
 fn print_sample(rt: &impl Print, verbs: &[u8], points: &[f32]) -> io::Result<()> {
-    if let Some(v) = verbs.get(1) {
-        print!(rt; "  byte 1 {v}")?;
-    }
+    let v = verbs.get(1).unwrap_or(&b' ');
+    print!(rt; "  byte 1 {v} float 5")?;
     if let Some(x) = points.get(5) {
-        print!(rt; " float 5 {}", Number(*x))?;
+        print!(rt; " {}", Number(*x))?;
     }
     println!(rt;)
 }
@@ -228,55 +271,68 @@ fn step(
         }
         return Ok(reply.state);
     }
+    let mut fields = line.fields;
     match line.letter {
-        "N" => return Ok(PathBuilder::new()),
-        "H" => return Ok(handed_in(line)),
-        "P" => print_pen(rt, b)?,
-        "T" => print_note(rt, b)?,
-        "S" => print_buffers(rt, line, verbs, points)?,
-        "Y" => print_sample(rt, verbs, points)?,
-        _ => return Err(ErrorKind::InvalidData.into()),
+        b'N' => return Ok(PathBuilder::new()),
+        b'H' => return Ok(handed_in(line)),
+        b'R' => return Ok(b.with_fill_rule(FillRule::EvenOdd)),
+        b'A' => return Ok(b.as_rounded_rect(fields.rect(), fields.float())),
+        b'P' => print_pen(rt, b)?,
+        b'T' => print_note(rt, b)?,
+        b'S' => print_buffers(rt, line, verbs, points)?,
+        b'Y' => print_sample(rt, verbs, points)?,
+        _ => {}
     }
     Ok(b)
 }
 
+// Plays the next n lines, on a fresh builder. Where the input ends before, the line that stands is played again.
+fn scene(
+    rt: &impl Print,
+    input: &mut impl Read,
+    n: usize,
+    verbs: &mut [u8],
+    points: &mut [f32],
+) -> io::Result<()> {
+    let mut text = [0; LINE];
+    let mut b = PathBuilder::new();
+    for _ in 0..n {
+        let _whole = read_record(input, &mut text)?;
+        b = step(rt, Line::parse(&text), b, verbs, points)?;
+    }
+    Ok(())
+}
+
 // The part of a buffer that is lent. A `Range` is no `Copy`.
-#[derive(Clone, Copy, Default)]
+#[derive(Clone, Copy)]
 struct Part {
     start: usize,
     end: usize,
 }
 
 impl Part {
-    fn of<T>(self, buffer: &mut [T]) -> io::Result<&mut [T]> {
-        buffer
-            .get_mut(self.start..self.end)
-            .ok_or(ErrorKind::InvalidData.into())
+    fn of<T>(self, buffer: &mut [T]) -> Option<&mut [T]> {
+        buffer.get_mut(self.start..self.end)
     }
 }
 
 fn main(rt: HostRuntime) -> io::Result<()> {
+    let mut input = BufReader::new(rt.alloc(), rt.reader())?;
+    let mut text = [0; LINE];
     let mut verbs = [9; 65538];
     let mut points = [7.0; 262148];
-    let mut lent_verbs = Part::default();
-    let mut lent_points = Part::default();
-    let mut b = PathBuilder::new();
-    for text in BufReader::new(rt.alloc(), rt.reader())?.lines(rt.alloc()) {
-        let text = text?;
-        let line = Line::parse(text.as_str()).ok_or(ErrorKind::InvalidData)?;
-        if line.letter == "B" {
-            let mut fields = line.fields;
-            lent_verbs = fields.part();
-            lent_points = fields.part();
-            b = PathBuilder::new();
-        } else {
-            b = step(
-                &rt,
-                line,
-                b,
-                lent_verbs.of(&mut verbs)?,
-                lent_points.of(&mut points)?,
-            )?;
+    for _ in 0..MOST_LENT {
+        if !read_record(&mut input, &mut text)? {
+            break;
+        }
+        let mut fields = Line::parse(&text).fields;
+        let (lent_verbs, lent_points) = (fields.part(), fields.part());
+        let lines = fields.count();
+        // a part that the buffers do not have is lent to no line
+        if let Some(verbs) = lent_verbs.of(&mut verbs) {
+            if let Some(points) = lent_points.of(&mut points) {
+                scene(&rt, &mut input, lines, verbs, points)?;
+            }
         }
     }
     Ok(())

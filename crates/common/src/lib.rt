@@ -1,7 +1,8 @@
-// What the programs share: a builder call played, whichever it is, and how answers are told.
+// What the programs share: a record read, a builder call played, whichever it is, and how answers are told.
 #![tactic(auto)]
 
-ghost use Rattle.std.specs.Prelude.{◌≡◌, pos, Some};
+ghost use Rattle.std.specs.Prelude.{◌≡◌, pos, true, Some, IfOk};
+ghost use Rattle.std.specs.Io.KnownBytes.{Consumes};
 ghost use Rattle.std.specs.List.{find, range_with_len};
 ghost use Rattle.std.specs.Float.{binary32};
 ghost use Rattle.std.specs.Float.Ieee.{eq, of_int};
@@ -12,8 +13,20 @@ ghost use Rattle.common.specs.Told.{refused_text, told_text, shape_text, yes_no_
 
 use builder::{Call, PathBuilder, Reply};
 use path::Refusal;
-use std::fmt;
+use std::io::{ErrorKind, Read};
+use std::{fmt, io};
 use turns::Convexity;
+
+// Fills a record from the input, and answers whether the input had as much. Where it had not, its last bytes are in front of the record all the same.
+pub fn read_record<R: Read>(input: &mut R, bytes: &mut [u8]) -> io::Result<bool>
+    ensures { IfOk result (λ whole. whole ≡ true → Consumes (R.remaining input.old) (R.remaining input.new) bytes.new) }
+{
+    match input.read_exact(bytes) {
+        Ok(()) => Ok(true),
+        Err(e) if e.kind() == ErrorKind::UnexpectedEof => Ok(false),
+        Err(e) => Err(e),
+    }
+}
 
 // Plays one call. The buffers stay two arguments, as the builder's calls have them.
 #[tactic(auto, unfolding(builder::specs::Build::called))]

@@ -1,7 +1,7 @@
 // Whether an outline is convex: `polygon_convexity` and `Path::convexity` of the source.
 #![tactic(auto)]
 
-ghost use Rattle.std.specs.Prelude.{◌≡◌};
+ghost use Rattle.std.specs.Prelude.{◌≡◌, nat_lt};
 ghost use Rattle.turns.specs.Answer.{polygon_convexity, has_curve, moves, path_reason, convexity};
 
 use path::Refusal;
@@ -24,11 +24,12 @@ fn has_curve(verbs: &[u8]) -> bool
     verbs.iter().any(|v| *v == path::QUAD || *v == path::CUBIC)
 }
 
+// Whether a move is the second one or a later one.
 #[tactic(auto, unfolding(turns::specs::Answer::moves))]
-fn count_moves(verbs: &[u8]) -> usize
-    ensures { result ≡ moves verbs.now }
+fn has_second_move(verbs: &[u8]) -> bool
+    ensures { result ≡ nat_lt 1 (moves verbs.now) }
 {
-    verbs.iter().filter(|v| **v == path::MOVE).count()
+    verbs.iter().filter(|v| **v == path::MOVE).nth(1).is_some()
 }
 
 #[tactic(auto, unfolding(turns::specs::Answer::path_reason))]
@@ -37,7 +38,7 @@ fn path_reason(verbs: &[u8], polygon: Polygon<'_>) -> Reason
 {
     if has_curve(verbs) {
         Reason::Curve
-    } else if 1 < count_moves(verbs) {
+    } else if has_second_move(verbs) {
         Reason::SecondMove
     } else {
         polygon.reason()

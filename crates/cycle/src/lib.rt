@@ -29,7 +29,7 @@ fn index_after(cycle: &[f32], index: usize) -> usize
     0
 }
 
-// The first interval from `index` on that is not 0; once round where all are. A walk seldom asks for it, so it stays out of the walk's loop.
+// The first interval from `index` on that is not 0; once round where all are. A walk asks for it where two zeros stand in a row, so it stays out of the walk's loop.
 #[cold]
 #[inline(never)]
 fn first_above(cycle: &[f32], index: usize) -> usize
@@ -43,16 +43,20 @@ fn first_above(cycle: &[f32], index: usize) -> usize
     (0..index).find(is_above).unwrap_or(index)
 }
 
-// The next one that is not 0. Mostly it is the next: then nothing is searched.
+// The next one that is not 0. Mostly it is the next, or the one behind a single 0: then nothing is searched.
 fn next_above(cycle: &[f32], index: usize) -> usize
     requires { index < length cycle.now }
     ensures { (result ≡ next cycle.now index) × (result < length cycle.now) }
 {
     let i = index_after(cycle, index);
-    if is_zero(cycle[i]) {
-        return first_above(cycle, i);
+    if !is_zero(cycle[i]) {
+        return i;
     }
-    i
+    let second = index_after(cycle, i);
+    if !is_zero(cycle[second]) {
+        return second;
+    }
+    first_above(cycle, i)
 }
 
 // Whether one of the intervals of number 0, 2, 4, .. is not 0.

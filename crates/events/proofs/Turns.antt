@@ -108,6 +108,14 @@ above_next : (cs : List Float) (k i : ℕ) → zero_at cs i ≡ true → above c
 unfolding above
 above_next cs k i h = rw h
 
+-- one 0 is passed over, and what stands behind it is none
+pub above_second : (cs : List Float) (i : ℕ) → i < length cs → zero_at cs i ≡ true → zero_at cs (after cs i) ≡ false → after cs i ≡ first_above cs i
+above_second cs i l z h =
+    let n : suc (length cs - 1) ≡ length cs = omega (arith, l) in
+    above_by cs (after cs i) (length cs - 1) (zero_at cs (after cs i)) h
+    ∙ sym (above_next cs (length cs - 1) i z)
+    ∙ ap (λ (k : ℕ). above cs k (zero_at cs i) i) n
+
 -- all from i on are passed over, up to j
 above_up : (cs : List Float) (d i j k : ℕ) → i + d ≡ j → j < length cs → d ≤ k → ((m : ℕ) → i ≤ m → m < j → zero_at cs m ≡ true) →
     above cs k (zero_at cs i) i ≡ above cs (k - d) (zero_at cs j) j

@@ -1,6 +1,6 @@
 -- An answer's number and values tell its case, and how dashing's outcome follows from its tests. Assumes nothing.
 use mathlib.Core.Path.{◌≡◌, refl, sym, ◌∙◌, ap}
-use Prim.Native.Nat.{ℕ, ◌/◌, ◌%◌}
+use Prim.Native.Nat.{ℕ, ◌/◌, ◌%◌, ◌≤◌}
 use native.Mathlib.Omega.{arith}
 use mathlib.Core.Bool.{Bool, true, false, cond, ◌&&◌, true≢false}
 use mathlib.Core.List.{List, []}
@@ -9,7 +9,7 @@ use lib.ListN.{length}
 use lib.Seq.{sets}
 use lib.Dec.{ltb}
 use lib.Ieee.{Float}
-use borrow.Author.Tests.{eqb-true, le-leb}
+use borrow.Author.Tests.{eqb-true, le-leb, ltb-false}
 use Rattle.float.specs.Arith.{f0}
 use Rattle.vec2.specs.declared.Vec2.{Vec2}
 use Rattle.vec2.specs.Points.{flat, points_in}
@@ -92,14 +92,15 @@ module _ (verbs : List ℕ) (points : List Float) (rule : FillRule) (intervals :
 -- ---- what is known where nothing is refused before any work
 
 passes : (a b c : Bool) (r : Result Unit Refusal) (d : Bool) →
-    ◌≡◌ {A = Result Unit Refusal} (cond (a && (b && c)) (result_and r (cond d (Err LongPattern) (Ok tt))) (Err OddFloats)) (Ok tt) → (b ≡ true) × (r ≡ Ok tt)
+    ◌≡◌ {A = Result Unit Refusal} (cond (a && (b && c)) (result_and r (cond d (Err LongPattern) (Ok tt))) (Err OddFloats)) (Ok tt) → (b ≡ true) × (r ≡ Ok tt) × (d ≡ false)
 passes a b c (Ok u) d h = grind (arith, common_steps)
 passes a b c (Err e) d h = grind (arith, common_steps)
 
-pub none_refused : (verbs : List ℕ) (points intervals : List Float) (n m : ℕ) → check verbs points intervals n m ≡ Ok tt → (n % 2 ≡ 0) × (path.check verbs points ≡ Ok tt)
+pub none_refused : (verbs : List ℕ) (points intervals : List Float) (n m : ℕ) → check verbs points intervals n m ≡ Ok tt →
+    (n % 2 ≡ 0) × (path.check verbs points ≡ Ok tt) × (length intervals ≤ max_intervals)
 none_refused verbs points intervals n m h =
     let p = passes (even (length points)) (even n) (even m) (path.check verbs points) (ltb max_intervals (length intervals)) h in
-    (eqb-true _ _ p.0, p.1)
+    (eqb-true _ _ p.0, p.1, ltb-false _ _ p.2)
 
 -- ---- nothing is drawn
 

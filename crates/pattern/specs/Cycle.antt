@@ -1,6 +1,7 @@
 -- A pattern's tests and its working cycle (`is_usable`, `cycle`, dash.rs; "Dash" of the scope). Definitions only.
-use Rattle.std.specs.Prelude.{ℕ, ◌%◌, ◌≡◌, ◌⊎◌, Bool, true, false, ◌&&◌, cond, List, [], ◌∷◌, ◌++◌, length, eqb, fold, Float}
+use Rattle.std.specs.Prelude.{ℕ, ◌%◌, ◌≡◌, ◌⊎◌, Bool, true, false, ◌&&◌, cond, List, [], ◌∷◌, ◌++◌, length, replicate, eqb, fold, Float}
 use Rattle.std.specs.List.{list_all}
+use Rattle.std.proofs.lemmas.List.Edits.{sets}
 use Rattle.std.specs.Float.{binary32}
 use Rattle.std.specs.Float.Ieee.{of_bits, lt, le}
 use Rattle.float.specs.Arith.{plus, f0}
@@ -16,6 +17,10 @@ max_cycle = 128
 -- the working cycle: an odd pattern laid twice
 abbrev pub cycle_of : List Float → List Float
 cycle_of ps = cond (eqb (length ps % 2) 0) ps (ps ++ ps)
+
+-- the array that holds it: zeros behind it
+abbrev pub working_cycle : List Float → List Float
+working_cycle ps = sets (replicate max_cycle f0) 0 (cycle_of ps)
 
 -- added first to last, from s on
 abbrev pub sum_from : Float → List Float → Float

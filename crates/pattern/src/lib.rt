@@ -1,14 +1,14 @@
 // A dash pattern: whether it can be walked, its working cycle, and the line styles.
 #![tactic(auto)]
 
-ghost use Rattle.std.specs.Prelude.{◌≡◌, ◌≤◌, length};
+ghost use Rattle.std.specs.Prelude.{◌≡◌, ◌+◌, ◌≤◌, length, take};
 ghost use Rattle.std.specs.Result.{result_map_both};
+ghost use Rattle.std.proofs.lemmas.List.Edits.{sets};
 ghost use Rattle.float.specs.Arith.{f0};
-ghost use Rattle.pattern.specs.Cycle.{max_intervals, cycle_of, sum_from, good_interval, all_good, usable, cuts};
+ghost use Rattle.pattern.specs.Cycle.{max_intervals, max_cycle, cycle_of, working_cycle, sum_from, good_interval, all_good, usable, cuts};
 ghost use Rattle.pattern.specs.Style.{line_style};
 
 use path::Refusal;
-use std::marker::Model;
 
 // The most intervals of a pattern, and of its working cycle.
 pub const MAX_INTERVALS: usize = 64;
@@ -57,45 +57,46 @@ pub fn is_usable(intervals: &[f32], phase: f32) -> bool
         && float::is_finite(phase)
 }
 
-// The working cycle: an even number of intervals, and room for as many as a pattern laid twice has. The array is the scope's form, and there is no heap.
-#[derive(Drop)]
+// The working cycle: the first `len` of `values`, an even number, and zeros behind them; room for as many as a pattern laid twice has. The array is the scope's
+// form, and there is no heap.
+#[derive(Clone, Copy)]
 pub struct Cycle {
-    values: [f32; MAX_CYCLE],
-    len: usize,
-}
-
-impl Model for Cycle {
-    ghost use Rattle.std.specs.Prelude.{List, Float, take, ◌≤◌};
-
-    ghost Value = { List Float };
-
-    ghost view = { λ c. take c.len c.values };
-
-    ghost invariant = { λ c. c.len ≤ 128 };
+    pub values: [f32; MAX_CYCLE],
+    pub len: usize,
+    pub ghost few: { len ≤ max_cycle },
 }
 
 impl Cycle {
     pub fn intervals(&self) -> &[f32]
-        ensures { result.now ≡ self.now }
+        ensures { result.now ≡ take self.now.len self.now.values }
     {
         &self.values[..self.len]
     }
 }
 
+// Stores the floats from place i on.
+#[tactic(auto, using(crate::proofs::Cycles::part_set))]
+fn copy_in(values: &mut [f32], i: usize, xs: &[f32])
+    requires { i + length xs.now ≤ length values.old }
+    ensures { values.new ≡ sets values.old i xs.now }
+{
+    values[i..i + xs.len()].copy_from_slice(xs);
+}
+
 // The intervals as an even-length cycle: an odd pattern is laid twice.
-#[tactic(auto, using(crate::proofs::Cycles::twice))]
 pub fn cycle_of(intervals: &[f32]) -> Cycle
     requires { length intervals.now ≤ max_intervals }
-    ensures { result ≡ cycle_of intervals.now }
+    ensures whole { result.values ≡ working_cycle intervals.now }
+    ensures count { result.len ≡ length (cycle_of intervals.now) }
 {
     let mut values = [0.0f32; MAX_CYCLE];
     let n = intervals.len();
-    values[..n].copy_from_slice(intervals);
+    copy_in(&mut values, 0, intervals);
     if n % 2 == 0 {
         return Cycle { values, len: n };
     }
-    values[n..2 * n].copy_from_slice(intervals);
-    Cycle { values, len: 2 * n }
+    copy_in(&mut values, n, intervals);
+    Cycle { values, len: n + n }
 }
 
 // Whether the path is cut, and not drawn whole; `cycle` is the pattern's working cycle. A tolerance that is a NaN draws it whole.
@@ -103,6 +104,9 @@ pub fn is_cut(intervals: &[f32], cycle: &[f32], phase: f32, tolerance: f32) -> b
     requires { cycle.now ≡ cycle_of intervals.now }
     ensures { result ≡ cuts intervals.now phase tolerance }
 {
+    if !is_usable(intervals, phase) {
+        return false;
+    }
     let period = sum_of(cycle);
-    is_usable(intervals, phase) && float::is_finite(period) && tolerance < period
+    float::is_finite(period) && tolerance < period
 }

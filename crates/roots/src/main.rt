@@ -1,18 +1,26 @@
 // Runs the root and the segment count over the list on standard input: a line for each operand with its bits, those of its root, and its count,
 // all in hexadecimal; 8000 is added to a count that was held back. tools/roots.c makes the list with the machine's own square root. A line that
-// differs is written out.
+// differs is written out. A million lines are read at most, and no part of one.
 #![tactic(auto)]
 
+ghost use Rattle.std.specs.Prelude.{◌<◌};
+
+use common::read_record;
 use float::SegmentCount;
 use std::io;
-use std::io::{BufRead, BufReader, ErrorKind};
+use std::io::BufReader;
 use std::num::{f32_from_bits_with_nan, f32_to_bits_with_nan};
 
-// What a line says: an operand's bits, those of its root, and its count.
+const MOST_LINES: u32 = 1_000_000;
+
+// The bytes of a line: 8, 8 and 4 digits, with one byte behind each number.
+const LINE: usize = 23;
+
+// What a line says: an operand, its root, and its count.
 #[derive(Clone, Copy)]
 struct Line {
-    operand: u32,
-    root: u32,
+    operand: f32,
+    root: f32,
     answer: SegmentCount,
 }
 
@@ -33,32 +41,46 @@ struct Tally {
     held: u64,
 }
 
-fn hexadecimal(digits: Option<&str>) -> Option<u32> {
-    u32::from_str_radix(digits?, 16).ok()
+// What a letter says; one that is no digit says 0.
+fn digit(letter: u8) -> u32
+    ensures { result < 16 }
+{
+    if b'0' <= letter && letter <= b'9' {
+        return u32::from(letter - b'0');
+    }
+    if b'a' <= letter && letter <= b'f' {
+        return u32::from(letter - b'a' + 10);
+    }
+    0
+}
+
+fn hexadecimal(digits: &[u8]) -> u32 {
+    let mut number = 0;
+    for letter in digits {
+        number = number % 0x1000_0000 * 16 + digit(*letter);
+    }
+    number
 }
 
 impl Line {
-    fn parse(text: &str) -> Option<Line> {
-        let mut numbers = text.split(' ');
-        let operand = hexadecimal(numbers.next())?;
-        let root = hexadecimal(numbers.next())?;
-        let told = hexadecimal(numbers.next())?;
-        Some(Line {
-            operand,
-            root,
+    // Every NaN is one here.
+    fn parse(text: &[u8; LINE]) -> Line {
+        let told = hexadecimal(&text[18..22]);
+        Line {
+            operand: f32_from_bits_with_nan(hexadecimal(&text[..8])),
+            root: f32_from_bits_with_nan(hexadecimal(&text[9..17])),
             answer: SegmentCount {
                 count: told % 0x8000,
                 held: 0x8000 <= told,
             },
-        })
+        }
     }
 
-    // Every NaN is one here.
     fn compare(self) -> Found {
-        let operand = f32_from_bits_with_nan(self.operand);
-        let answer = count::segment_count(operand);
+        let root = root::sqrt(self.operand);
+        let answer = count::segment_count(self.operand);
         Found {
-            root: f32_to_bits_with_nan(root::sqrt(operand)) == self.root,
+            root: f32_to_bits_with_nan(root) == f32_to_bits_with_nan(self.root),
             count: answer.count == self.answer.count,
             held: answer.held == self.answer.held,
         }
@@ -81,13 +103,16 @@ impl Tally {
 }
 
 fn main(rt: HostRuntime) -> io::Result<()> {
+    let mut input = BufReader::new(rt.alloc(), rt.reader())?;
+    let mut text = [0; LINE];
     let mut tally = Tally::default();
-    for text in BufReader::new(rt.alloc(), rt.reader())?.lines(rt.alloc()) {
-        let text = text?;
-        let line = Line::parse(text.as_str()).ok_or(ErrorKind::InvalidData)?;
-        let found = line.compare();
+    for _ in 0..MOST_LINES {
+        if !read_record(&mut input, &mut text)? {
+            break;
+        }
+        let found = Line::parse(&text).compare();
         if !found.all() {
-            println!(rt; "{text}")?;
+            rt.write_all(&text)?;
         }
         tally.add(found);
     }

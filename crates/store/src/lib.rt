@@ -3,10 +3,10 @@
 // Counts of verbs and of points, too, go side by side: with a struct of both, each call would write the struct out.
 #![tactic(auto)]
 
-ghost use Rattle.std.specs.Prelude.{◌≡◌, true, [], ◌∷◌, ◌+◌, ◌≤◌, length};
+ghost use Rattle.std.specs.Prelude.{◌≡◌, true, [], ◌∷◌, ◌+◌, ◌*◌, ◌≤◌, length};
 ghost use Rattle.path.specs.Check.{max_points};
 ghost use Rattle.path.specs.Segment.{points_of};
-ghost use Rattle.store.specs.Refusal.{verb_cap, point_cap, bad_state, no_room, refusal_of, Fits};
+ghost use Rattle.store.specs.Refusal.{verb_cap, point_cap, bad_state, no_room, refusal_of};
 ghost use Rattle.store.specs.Store.{next, behind, Stored, Laid};
 
 use path::{Refusal, Segment};
@@ -49,10 +49,14 @@ impl Standing {
     fn is_broken(self, verbs: usize, points: usize) -> bool
         ensures { result ≡ bad_state self verbs points }
     {
-        verbs < self.verbs
-            || points < self.points
-            || self.started != (0 < self.verbs)
-            || self.started && self.points == 0
+        // by the flag first: what a call asks of it afterwards is known in both branches
+        if self.started {
+            return verbs < self.verbs
+                || points < self.points
+                || self.verbs == 0
+                || self.points == 0;
+        }
+        0 < self.verbs || points < self.points
     }
 
     // Whether dv more verbs or dk more points are too many.
@@ -104,7 +108,7 @@ impl Standing {
     // Stores a segment that has room behind what stands, and says where it stands now. Inlined, since where it is called the segment's kind is known.
     #[inline(always)]
     pub fn put(self, s: Segment, verbs: &mut [u8], points: &mut [f32]) -> Standing
-        requires { Fits self (length verbs.old) (length points.old) 1 (length (points_of s)) }
+        requires { (self.verbs + 1 ≤ length verbs.old) × (2 * (self.points + length (points_of s)) ≤ length points.old) }
         ensures { (result ≡ next self s) × Stored self verbs.old points.old (s ∷ []) verbs.new points.new }
     {
         let k = self.points;
@@ -122,7 +126,11 @@ impl Standing {
             }
             Segment::Close => {}
         }
-        self.past(1, point_count(s))
+        Standing {
+            verbs: self.verbs + 1,
+            points: self.points + point_count(s),
+            started: true,
+        }
     }
 
     // Lays a segment, or refuses it. Inlined like `put`.

@@ -3,42 +3,49 @@
 // of cases, made by `compare/vectors` (see there), in words of four bytes, low byte first. A case: how many words follow; tolerance, phase and scale;
 // the number of intervals, the intervals; the number of calls, the calls, seven words each; and then every answer in the order in which `run` asks.
 // A float is its pattern; every NaN is one here. Floats, ends and marks are lent as 77.5, 7777 and 165 where the list says what is left alone. The
-// number of each case that differs is written out.
+// number of each case that differs is written out, before the next case is read.
 #![tactic(auto)]
 
-ghost use Rattle.std.specs.Prelude.{length};
-ghost use Rattle.std.specs.Iterator.{at_most};
+ghost use Rattle.std.specs.Prelude.{◌≤◌};
 
 use builder::{Call, PathBuilder, RoundedRect};
+use common::read_record;
 use float::SegmentCount;
 use outline::Dashed;
 use path::{FillRule, Refusal, number_of};
 use polyline::Flattened;
 use rect::Rect;
-use std::alloc::{AllocError, Global};
 use std::io;
-use std::io::Read;
+use std::io::{BufReader, Read};
 use std::num::{f32_from_bits_with_nan, f32_to_bits_with_nan};
 use turns::Convexity;
 use vec2::Vec2;
 
 // ---- the list
 
-// The cases that are still to be run, each without the word that says how long it is.
-#[derive(Clone, Copy)]
-struct Cases<'a>(&'a [u32]);
+// The most cases, and the most words of a case.
+const MOST_CASES: u64 = 100_000;
 
-impl<'a> Iterator for Cases<'a> {
-    type Item = &'a [u32];
+const MOST_WORDS: usize = 4352;
 
-    ghost remaining = { λ s. at_most (length s.0.now) };
+// A number that says how many words there are; one over the most words of a case says 0.
+fn count_of(word: u32) -> usize
+    ensures { result ≤ 4352 }
+{
+    let n = word as usize;
+    if n <= MOST_WORDS { n } else { 0 }
+}
 
-    fn next(&mut self) -> Option<&'a [u32]> {
-        let (count, rest) = self.0.split_first()?;
-        let (case, rest) = rest.split_at_checked(*count as usize)?;
-        self.0 = rest;
-        Some(case)
+// Fills the words from the input, and answers whether it had so many.
+fn read_words(input: &mut impl Read, words: &mut [u32]) -> io::Result<bool> {
+    let mut bytes = [0; 4];
+    for word in words {
+        if !read_record(input, &mut bytes)? {
+            return Ok(false);
+        }
+        *word = u32::from_le_bytes(bytes);
     }
+    Ok(true)
 }
 
 #[derive(Clone, Copy)]
@@ -52,12 +59,15 @@ struct Case<'a> {
 }
 
 impl<'a> Case<'a> {
-    // None where the words are too few.
+    // None where the words are too few, or the intervals more than a pattern has.
     fn parse(words: &'a [u32]) -> Option<Case<'a>> {
         let ([tolerance, phase, scale, count], rest) = words.split_first_chunk::<4>()?;
-        let (intervals, rest) = rest.split_at_checked(*count as usize)?;
+        let (intervals, rest) = rest.split_at_checked(count_of(*count))?;
+        if pattern::MAX_INTERVALS < intervals.len() {
+            return None;
+        }
         let (count, rest) = rest.split_first()?;
-        let (calls, answers) = rest.split_at_checked(7 * *count as usize)?;
+        let (calls, answers) = rest.split_at_checked(7 * count_of(*count))?;
         Some(Case {
             tolerance: f32_from_bits_with_nan(*tolerance),
             phase: f32_from_bits_with_nan(*phase),
@@ -73,22 +83,21 @@ fn point_of(x: u32, y: u32) -> Vec2 {
     Vec2::new(f32_from_bits_with_nan(x), f32_from_bits_with_nan(y))
 }
 
-// A call: its kind, which the list has as a number, as all that it has is words, then its points and floats. None for a number that is no kind.
-fn call_of(words: [u32; 7]) -> Option<Call> {
+// A call: its kind, which the list has as a number, as all that it has is words, then its points and floats. From 7 on it is the note.
+fn call_of(words: [u32; 7]) -> Call {
     let [kind, x0, y0, x1, y1, x2, y2] = words;
     let p = point_of(x0, y0);
     let q = point_of(x1, y1);
     let r = point_of(x2, y2);
     match kind {
-        0 => Some(Call::MoveTo(p)),
-        1 => Some(Call::LineTo(p)),
-        2 => Some(Call::QuadTo(p, q)),
-        3 => Some(Call::CubicTo(p, q, r)),
-        4 => Some(Call::Close),
-        5 => Some(Call::ConicTo(p, q, r.x)),
-        6 => Some(Call::WithFillRule(FillRule::from(u8::from(x0 != 0)))),
-        7 => Some(Call::AsRoundedRect(Rect::new(p, q), r.x)),
-        _ => None,
+        0 => Call::MoveTo(p),
+        1 => Call::LineTo(p),
+        2 => Call::QuadTo(p, q),
+        3 => Call::CubicTo(p, q, r),
+        4 => Call::Close,
+        5 => Call::ConicTo(p, q, r.x),
+        6 => Call::WithFillRule(FillRule::from(u8::from(x0 != 0))),
+        _ => Call::AsRoundedRect(Rect::new(p, q), r.x),
     }
 }
 
@@ -393,7 +402,7 @@ fn build(
 ) -> Option<PathBuilder> {
     let mut b = PathBuilder::new();
     for words in calls {
-        let r = common::play(b, call_of(*words)?, verbs, points);
+        let r = common::play(b, call_of(*words), verbs, points);
         b = r.state;
         tape.expect(r.quads.unwrap_or(0))?;
         tape.expect(number_of(&r.quads))?;
@@ -431,36 +440,39 @@ fn run(case: Case, intervals: &[f32]) -> Option<()> {
     tape.0.is_empty().then_some(())
 }
 
-fn replay(alloc: Global, words: &[u32]) -> Result<bool, AllocError> {
+// Whether every answer of a case is the listed one, and no more are listed.
+fn replay(words: &[u32]) -> bool {
     let Some(case) = Case::parse(words) else {
-        return Ok(false);
+        return false;
     };
-    let intervals: Vec<f32> = case
-        .intervals
-        .iter()
-        .map(|word| f32_from_bits_with_nan(*word))
-        .collect(alloc)?;
-    Ok(run(case, intervals.as_slice()).is_some())
+    let mut intervals = [0.0; pattern::MAX_INTERVALS];
+    for (interval, word) in intervals.iter_mut().zip(case.intervals) {
+        *interval = f32_from_bits_with_nan(*word);
+    }
+    run(case, first(&intervals, case.intervals.len())).is_some()
 }
 
 fn main(rt: HostRuntime) -> io::Result<()> {
-    let mut bytes = Vec::new(rt.alloc());
-    rt.reader().read_to_end(&mut bytes)?;
-    let (words, _) = bytes.as_slice().as_chunks::<4>();
-    let words: Vec<u32> = words
-        .iter()
-        .map(|word| u32::from_le_bytes(*word))
-        .collect(rt.alloc())?;
-    let mut same = Vec::new(rt.alloc());
-    for case in Cases(words.as_slice()) {
-        same.push(replay(rt.alloc(), case)?)?;
-    }
-    for (i, same) in same.iter().enumerate() {
-        if !*same {
-            println!(rt; "{} differs", i + 1)?;
+    let mut input = BufReader::new(rt.alloc(), rt.reader())?;
+    let mut head = [0; 1];
+    let mut words = [0; MOST_WORDS];
+    let mut cases: u64 = 0;
+    let mut right: u64 = 0;
+    for number in 1..=MOST_CASES {
+        if !read_words(&mut input, &mut head)? {
+            break;
+        }
+        let case = &mut words[..count_of(head[0])];
+        if !read_words(&mut input, case)? {
+            break;
+        }
+        cases = number;
+        if replay(case) {
+            right = right.saturating_add(1);
+        } else {
+            println!(rt; "{number} differs")?;
         }
     }
-    let right = same.iter().filter(|same| **same).count();
-    println!(rt; "{} cases", same.len())?;
+    println!(rt; "{cases} cases")?;
     println!(rt; "{right} as the source and the requests have it")
 }
