@@ -1,7 +1,9 @@
--- The array of the working cycle: a part of it, overwritten (`part_set`); the pattern stored in it once (`even`), or once more behind itself (`odd`), and zeros
--- behind it; and what a caller may take from it (`front`). Assumes nothing.
-use Rattle.std.proofs.Common.{◌≡◌, ◌+◌, ◌%◌, ◌≤◌, ℕ, Bool, true, false, cond, List, ◌++◌, length, take, drop, replicate, Float, refl, ap, ◌∙◌, arith}
+-- The array of the working cycle: a part of it, overwritten (`part_set`); what stands in front where an odd pattern is stored in any array and once more behind
+-- itself (`twice`); the pattern stored once (`even`), or twice (`odd`), and zeros behind it; and what a caller may take from it (`front`). Assumes nothing.
+use Rattle.std.proofs.Common.{◌≡◌, ◌+◌, ◌-◌, ◌*◌, ◌%◌, ◌≤◌, ℕ, Bool, true, false, cond, List, ◌++◌, length, take, drop, replicate, Float, refl, ap, ◌∙◌, arith}
 use Rattle.std.proofs.lemmas.List.{length-append, length-replicate, drop-drop}
+use Rattle.std.proofs.Math.Seq.{take-append_seam}
+use Rattle.std.proofs.lemmas.Slice.{take-put_mid}
 use borrow.Rule.Slice.PartMut.{put_mid, post_of}
 use native.Mathlib.Nat.{zero-add}
 use mathlib.Core.List.{append_assoc}
@@ -18,6 +20,13 @@ pub part_set : {A : Type 0} (l : List A) (i k : ℕ) (ys zs : List A) → ys ≡
 part_set l i k ys zs e n h =
     let p : post_of i k l ≡ drop (i + length zs) l = drop-drop k i l ∙ ap (λ (m : ℕ). drop (i + m) l) n in
     rw (p, e, sets-eq zs l i h, append_assoc)
+
+pub twice : (ps z s p : List Float) → (length ps % 2 ≡ 0 → ⊥) → s ≡ ps → p ≡ ps →
+    take (2 * length ps) (put_mid (length ps) (2 * length ps - length ps) (s ++ drop (length ps) z) p) ≡ cycle_of ps
+twice ps z s p odd isS isP =
+    rw (isS, isP, ne_eqb (length ps % 2) 0 odd)
+    (take-put_mid (length ps) (2 * length ps - length ps) (ps ++ drop (length ps) z) ps (2 * length ps) (omega arith) (omega (arith, length-append ps (drop (length ps) z)))
+    ∙ ap (λ (r : List Float). r ++ ps) (take-append_seam ps (drop (length ps) z)))
 
 -- how the array comes to be, and how many intervals are in it
 module _ (ps v : List Float) where
